@@ -6,6 +6,7 @@ ghost use Rattle.awari_build.specs.BuildFault.{IsStopped};
 ghost use Rattle.awari_build.specs.Settled.{AreSettled};
 ghost use Rattle.awari_heard.specs.Level.{AreHeard, AreWhole};
 ghost use Rattle.awari_table.specs.declared.TheConstants.{HIGHEST_LEVEL};
+ghost use Rattle.awari_waves.specs.Analyses.{GoesOn, GoesTo, IsNextAt};
 ghost use Rattle.awari_waves.specs.Each.{AreFrom, NoneAreFresh, HasDue};
 
 use crate::faults::BuildFault;
@@ -51,12 +52,11 @@ fn tell<P: Progress>(analysis: &Analysis, progress: &mut P)
 /// Spreads all boards that are settled at the open gain, the nearest first. `progress` hears of each
 /// greater distance, and may stop there.
 fn spread_all<P: Progress>(mut analysis: Analysis, progress: &mut P) -> Result<Analysis, BuildFault>
-    requires opened { analysis.gain ≤ analysis.level }
-    requires begun { analysis.wave ≡ 0 }
+    requires begun { IsNextAt 0 analysis }
     requires heard { (value : List ℕ → ℤ) × AreHeard value analysis.parts }
-    ensures same { IfOk result (λ all. (all.level ≡ analysis.level) × (all.gain ≡ analysis.gain)) }
+    ensures goes_on { IfOk result (GoesOn analysis) }
+    ensures gain { IfOk result (λ all. all.gain ≡ analysis.gain) }
     ensures idle { IfOk result (λ all. NoneAreFresh all.parts) }
-    ensures heard { IfOk result (λ all. (value : List ℕ → ℤ) → AreHeard value analysis.parts → AreHeard value all.parts) }
     ensures refused { IfErr result (λ fault. (fault ≡ BuildFault.Memory) ⊎ IsStopped P.stops fault) }
 {
     let mut from: u32 = 0;
@@ -73,16 +73,12 @@ fn spread_all<P: Progress>(mut analysis: Analysis, progress: &mut P) -> Result<A
 
 /// Spreads the boards of this distance, the least of a fresh board.
 fn spread_nearest(analysis: Analysis, dist: u32) -> Result<Analysis, AllocError>
-    requires opened { analysis.gain ≤ analysis.level }
-    requires timely { analysis.wave ≤ dist }
-    requires far { AreFrom dist analysis.parts }
+    requires next { IsNextAt dist analysis }
     requires due { HasDue dist analysis.parts }
     requires whole { AreWhole analysis.level analysis.parts × (analysis.level ≤ 24) }
     requires heard { (value : List ℕ → ℤ) × AreHeard value analysis.parts }
     ensures near { dist < 2 ^ 32 - 1 }
-    ensures same { IfOk result (λ all. (all.level ≡ analysis.level) × (all.gain ≡ analysis.gain)) }
-    ensures wave { IfOk result (λ all. all.wave ≡ dist) }
-    ensures heard { IfOk result (λ all. (value : List ℕ → ℤ) → AreHeard value analysis.parts → AreHeard value all.parts) }
+    ensures goes_to { IfOk result (GoesTo dist analysis) }
     ensures farther { IfOk result (λ all. AreFrom (dist + 1) all.parts) }
 {
     // Ghost: these bound dist + 1.

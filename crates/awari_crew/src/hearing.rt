@@ -1,12 +1,12 @@
 //! How a segment hears what members told.
 
-ghost use Rattle.std.specs.Prelude.{◌≡◌, ◌/◌, ◌%◌, ◌^◌, ◌-◌, ◌<◌, ◌≤◌, ◌∷◌, [], IsTrue, true, All, OnOk, length};
+ghost use Rattle.std.specs.Prelude.{◌≡◌, ◌/◌, ◌^◌, ◌<◌, ◌≤◌, ◌∷◌, [], IsTrue, true, All, OnOk, length};
 ghost use Rattle.awari_block.specs.Boards.{Settles, stake_of};
 ghost use Rattle.awari_block.specs.Cells.{is_settled};
 ghost use Rattle.awari_block.specs.Part.{stored_at};
 ghost use Rattle.awari_block.specs.Each.{EachTo};
 ghost use Rattle.awari_crew.specs.Tellings.{HearsSurely, HearsTelling, telling_of};
-ghost use Rattle.awari_waves.specs.Waves.{IsCodeFor, notes_by};
+ghost use Rattle.awari_waves.specs.Waves.{IsCodeFor, IsReady, notes_by};
 
 use crate::halts::Halt;
 use crate::taking::is_same;
@@ -78,8 +78,7 @@ fn hear_batch(segment: &mut Segment, kind: Kind, codes: &[u32]) -> Result<(), Ha
 /// Whether a gain is open, the wave is not the greatest u32, and all these notes are for boards of the
 /// segment.
 fn can_hear(segment: &Segment, codes: &[u32]) -> bool
-    ensures opened { IsTrue result → segment.now.gain ≤ segment.now.level }
-    ensures near { IsTrue result → segment.now.wave < 2 ^ 32 - 1 }
+    ensures ready { IsTrue result → IsReady segment.now }
     ensures codes { IsTrue result → All (IsCodeFor segment.now) codes.now }
 {
     let stake = segment.stake();
@@ -103,8 +102,7 @@ fn are_for(segment: &Segment, codes: &[u32]) -> bool
 fn hear_unheard(segment: &mut Segment, kind: Kind, code: u32, settled: bool) -> Result<(), Halt>
     requires code { IsCodeFor segment.old code }
     requires settled { IsTrue settled → is_settled (stored_at segment.old (code / 8)).mark ≡ true }
-    requires opened { segment.old.gain ≤ segment.old.level }
-    requires near { segment.old.wave < 2 ^ 32 - 1 }
+    requires ready { IsReady segment.old }
     ensures settles { OnOk result (Settles segment.old segment.new) }
     ensures hears { OnOk result (HearsSurely (notes_by (stake_of segment.old) kind (code ∷ [])) segment.old segment.new) }
 {

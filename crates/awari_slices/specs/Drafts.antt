@@ -1,8 +1,7 @@
 -- What holds of a level that is begun.
-use Rattle.std.specs.Prelude.{◌≡◌, ℕ, zero, suc, ◌+◌, ◌≤◌, ◌⊎◌, ℤ, List}
+use Rattle.std.specs.Prelude.{◌≡◌, ℕ, zero, suc, ◌+◌, ◌≤◌, ◌⊎◌, List}
 use Rattle.awari_block.specs.Part.{Part}
-use Rattle.awari_heard.specs.Level.{AreHeard}
-use Rattle.awari_waves.specs.Analyses.{AnalysisView}
+use Rattle.awari_waves.specs.Analyses.{AnalysisView, GoesOn}
 use Rattle.awari_waves.specs.Each.{AreFrom, HasDue, NoneAreFresh, PassesFirst}
 use Rattle.awari_slices.specs.declared.drafts.Draft.TheInside.{Inside}
 
@@ -15,10 +14,10 @@ pub record IsDraft (d : Inside) : Type 0 where
 abbrev pub SpreadsNearest : List Part → List Part → Type 0
 SpreadsNearest old new = (dist : ℕ) × AreFrom dist old × HasDue dist old × PassesFirst dist old new
 
--- A slice of a level is built: the next gain is opened if no board is fresh, and else some boards are spread.
+-- A slice of a level is built: the next gain is opened if no board is fresh, and else some boards are spread. So a loop of slices
+-- comes to an end.
 pub record IsSlice (old new : AnalysisView) : Type 0 where
-  pub level : new.level ≡ old.level
-  pub heard : (value : List ℕ → ℤ) → AreHeard value old.parts → AreHeard value new.parts
+  pub goes_on : GoesOn old new
   pub opens : NoneAreFresh old.parts → 2 ≤ old.gain → new.gain + 1 ≡ old.gain
   pub spreads : NoneAreFresh old.parts ⊎ SpreadsNearest old.parts new.parts
 

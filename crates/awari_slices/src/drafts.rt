@@ -1,14 +1,15 @@
 //! A level that is begun.
 
-ghost use Rattle.std.specs.Prelude.{◌≡◌, ℕ, ℤ, ◌+◌, ◌^◌, ◌-◌, ◌<◌, ◌≤◌, ◌⊎◌, ◌↔◌, List, All, IfOk, IsTrue, length};
+ghost use Rattle.std.specs.Prelude.{◌≡◌, ℕ, ℤ, ◌+◌, ◌≤◌, ◌↔◌, List, All, IfOk, IsTrue, length};
 ghost use Rattle.awari_block.specs.Counts.{spread_in};
 ghost use Rattle.awari_block.specs.Part.{IsClosed};
 ghost use Rattle.awari_heard.specs.Kept.{IsKept};
 ghost use Rattle.awari_heard.specs.Level.{AreHeard, AreWhole};
 ghost use Rattle.awari_table.specs.Images.{table_of};
 ghost use Rattle.awari_table.specs.declared.TheConstants.{HIGHEST_LEVEL};
-ghost use Rattle.awari_slices.specs.Drafts.{AreSlices, SpreadsNearest};
-ghost use Rattle.awari_waves.specs.Each.{AreFrom, NoneAreFresh, HasDue};
+ghost use Rattle.awari_slices.specs.Drafts.{AreSlices, IsSlice, SpreadsNearest};
+ghost use Rattle.awari_waves.specs.Analyses.{GoesOn, IsNextAt};
+ghost use Rattle.awari_waves.specs.Each.{NoneAreFresh, HasDue};
 
 use awari_heard::{distances_fit, finish_closed, one_part_hears_all};
 use awari_table::{Image, Shelf};
@@ -72,13 +73,8 @@ impl Draft {
     /// It takes memory for fresh boards and for notes, and is refused only if that runs out; then the
     /// level is lost.
     pub fn spread(self, boards: usize) -> Result<Draft, AllocError>
-        requires heard { (value : List ℕ → ℤ) × AreHeard value self.parts }
-        ensures level { IfOk result (λ draft. draft.level ≡ self.level) }
-        ensures heard { IfOk result (λ draft. (value : List ℕ → ℤ) → AreHeard value self.parts → AreHeard value draft.parts) }
-
-        // So a loop of calls comes to an end.
-        ensures opens { IfOk result (λ draft. NoneAreFresh self.parts → 2 ≤ self.gain → draft.gain + 1 ≡ self.gain) }
-        ensures spreads { IfOk result (λ draft. NoneAreFresh self.parts ⊎ SpreadsNearest self.parts draft.parts) }
+        requires { (value : List ℕ → ℤ) × AreHeard value self.parts }
+        ensures { IfOk result (IsSlice self) }
     {
         let Draft { analysis } = self;
         match analysis.due(analysis.wave()) {
@@ -112,9 +108,8 @@ impl Draft {
 
 /// The level after so many slices, each of so many boards.
 pub fn spread_slices(draft: Draft, slices: u32, boards: usize) -> Result<Draft, AllocError>
-    requires heard { (value : List ℕ → ℤ) × AreHeard value draft.parts }
-    ensures level { IfOk result (λ after. after.level ≡ draft.level) }
-    ensures heard { IfOk result (λ after. (value : List ℕ → ℤ) → AreHeard value draft.parts → AreHeard value after.parts) }
+    requires { (value : List ℕ → ℤ) × AreHeard value draft.parts }
+    ensures goes_on { IfOk result (GoesOn draft) }
     ensures slices { IfOk result (AreSlices slices draft) }
 {
     let mut after = draft;
@@ -126,14 +121,11 @@ pub fn spread_slices(draft: Draft, slices: u32, boards: usize) -> Result<Draft, 
 
 /// With some boards of this distance spread, the least of a fresh board.
 fn spread_due(analysis: Analysis, dist: u32, boards: usize) -> Result<Draft, AllocError>
-    requires opened { analysis.gain ≤ analysis.level }
-    requires timely { analysis.wave ≤ dist }
-    requires far { AreFrom dist analysis.parts }
+    requires next { IsNextAt dist analysis }
     requires due { HasDue dist analysis.parts }
     requires whole { AreWhole analysis.level analysis.parts × (analysis.level ≤ 24) }
     requires heard { (value : List ℕ → ℤ) × AreHeard value analysis.parts }
-    ensures level { IfOk result (λ draft. draft.level ≡ analysis.level) }
-    ensures heard { IfOk result (λ draft. (value : List ℕ → ℤ) → AreHeard value analysis.parts → AreHeard value draft.parts) }
+    ensures goes_on { IfOk result (GoesOn analysis) }
     ensures spreads { IfOk result (λ draft. SpreadsNearest analysis.parts draft.parts) }
 {
     // Ghost: these bound dist + 1.
@@ -146,8 +138,7 @@ fn spread_due(analysis: Analysis, dist: u32, boards: usize) -> Result<Draft, All
 /// With the next gain open, unless the last one is.
 fn opened(analysis: Analysis) -> Result<Draft, AllocError>
     requires idle { NoneAreFresh analysis.parts }
-    ensures level { IfOk result (λ draft. draft.level ≡ analysis.level) }
-    ensures heard { IfOk result (λ draft. (value : List ℕ → ℤ) → AreHeard value analysis.parts → AreHeard value draft.parts) }
+    ensures goes_on { IfOk result (GoesOn analysis) }
     ensures opens { IfOk result (λ draft. 2 ≤ analysis.gain → draft.gain + 1 ≡ analysis.gain) }
 {
     if analysis.gain() < 2 {

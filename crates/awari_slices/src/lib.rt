@@ -8,9 +8,8 @@
 //! Some slices, in `crates/awari_slices/src/drafts.rt`:
 //!
 //!     pub fn spread_slices(draft: Draft, slices: u32, boards: usize) -> Result<Draft, AllocError>
-//!         requires heard { (value : List ℕ → ℤ) × AreHeard value draft.parts }
-//!         ensures level { IfOk result (λ after. after.level ≡ draft.level) }
-//!         ensures heard { IfOk result (λ after. (value : List ℕ → ℤ) → AreHeard value draft.parts → AreHeard value after.parts) }
+//!         requires { (value : List ℕ → ℤ) × AreHeard value draft.parts }
+//!         ensures goes_on { IfOk result (GoesOn draft) }
 //!         ensures slices { IfOk result (AreSlices slices draft) }
 //!     {
 //!         let mut after = draft;

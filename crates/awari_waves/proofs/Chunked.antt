@@ -9,7 +9,8 @@ use Rattle.awari_rank.proofs.Ranking.{rank_of-below}
 use Rattle.awari_block.specs.Notes.{IsQuietMove, Has, IsNoteOf, gain_by, is_heard_at}
 use Rattle.awari_block.specs.Blocks.{Due, times_due}
 use Rattle.awari_block.specs.Part.{Part, InBlock, IsTallied, notes_for, settled_at}
-use Rattle.awari_block.specs.Boards.{stake_of, value_of_kind}
+use Rattle.awari_block.specs.Boards.{Settles, stake_of, value_of_kind}
+use Rattle.awari_block.specs.Each.{EachTo}
 use Rattle.awari_block.specs.declared.notes.Kind.{Kind}
 use Rattle.awari_block.specs.declared.notes.Kind.TheVariants.{Won, Lost}
 use Rattle.awari_block.specs.declared.notes.Note.{Note}
@@ -20,7 +21,7 @@ use Rattle.awari_scan.specs.Found.{Source, code_by, code_of}
 use Rattle.awari_heard.specs.Level.{AreHeard, no_part, part_at}
 use Rattle.awari_heard.proofs.SpreadBoards.{IsInjective, spread_before, spread_stays}
 use Rattle.awari_waves.specs.Lists.{AreDistinct}
-use Rattle.awari_waves.specs.Waves.{AllHear, AreSourcesOf, CanAllHear, IsCodeFor, AreSegments, AwaitsSpread, SettlesAll, codes_to, note_by, with_pending, notes_by}
+use Rattle.awari_waves.specs.Waves.{AllHear, AreSourcesOf, CanAllHear, IsCodeFor, AreSegments, AwaitsSpread, SettlesPast, codes_to, note_by, with_pending, notes_by}
 use Rattle.awari_waves.proofs.Sources.{IsFrom, Keeps, codes_distinct, codes_in, distinct_apart, distinct_first, distinct_second, in_codes, in_map, in_or_not, source_all, source_from, sources_distinct}
 use Rattle.awari_waves.proofs.Laying.{sources_both}
 use Rattle.awari_block.proofs.NoteLists.{heard_note, Has-append_cases, Has-append_left, Has-append_right, all_has}
@@ -254,20 +255,20 @@ module _ (stake : Stake) (span : ℕ) (old : List Part) (injective : IsInjective
 
     inside_old : (i r : ℕ) → i < length old → InBlock (part_at new i) r → InBlock (part_at old i) r
     inside_old i r few inside =
-        let s = hears.settles i few in
+        let s = (hears.settles.each i no_part few).settles in
         let a = inside.0 in
         let b = inside.1 in
         (omega (arith, a, s.same.start), omega (arith, b, s.size, s.same.start))
 
     spread_now : (i r : ℕ) (v : ℤ) (d : ℕ) → i < length old → InBlock (part_at old i) r → (Has rest r → ⊥) → IsSpread (part_at old i) r v d → IsSpread (with_pending rest (part_at new i)) r v d
     spread_now i r v d few inside apart spread =
-        let s = hears.settles i few in
+        let s = (hears.settles.each i no_part few).settles in
         let now = spread_stays (part_at old i) (part_at new i) s.same.start s.stays s.joins r v d inside.0 spread in
         (now.0, pend_none (part_at new i).wave rest (part_at new i).fresh r apart now.1)
 
     spread_then : (i r : ℕ) (v : ℤ) (d : ℕ) → i < length old → InBlock (part_at old i) r → IsSpread (with_pending rest (part_at new i)) r v d → (Has rest r → ⊥) × IsSpread (part_at old i) r v d
     spread_then i r v d few inside spread =
-        let s = hears.settles i few in
+        let s = (hears.settles.each i no_part few).settles in
         let none = pend_zero (part_at new i).wave rest (part_at new i).fresh r spread.1 in
         (none.0, spread_before (part_at old i) (part_at new i) s.same.start s.stays s.joins r v d inside.0 (spread.0, none.1))
 
@@ -312,7 +313,7 @@ module _ (stake : Stake) (span : ℕ) (old : List Part) (injective : IsInjective
       true_notes = λ p x q board stones in_p in_q quiet m has pit.
           let in_p' = inside_old j (rank_of p) few' in_p in
           let in_q' = inside_old i (rank_of q) few in_q in
-          let level = stones ∙ (hears.settles j few').same.level in
+          let level = stones ∙ (hears.settles.each j no_part few').settles.same.level in
           elim (for_either (lost_by j ++ won_by j) notes (rank_of p) m has) [
             | inl before ↦ (
                 let told = own.true_notes p x q board level in_p' in_q' quiet m before pit in
@@ -331,7 +332,7 @@ module _ (stake : Stake) (span : ℕ) (old : List Part) (injective : IsInjective
       all_notes = λ p x q v d board stones in_p in_q quiet spread.
           let in_p' = inside_old j (rank_of p) few' in_p in
           let in_q' = inside_old i (rank_of q) few in_q in
-          let level = stones ∙ (hears.settles j few').same.level in
+          let level = stones ∙ (hears.settles.each j no_part few').settles.same.level in
           let then = spread_then i (rank_of q) v d few in_q' spread in
           elim (in_or_not lost (rank_of q)) [
             | inl l ↦ (
@@ -372,7 +373,7 @@ module _ (stake : Stake) (span : ℕ) (old : List Part) (injective : IsInjective
 
     pub chunk_heard : (value : List ℕ → ℤ) → AreHeard value (map (with_pending everyone) old) → AreHeard value (map (with_pending rest) new)
     chunk_heard value told j d h =
-        let many = hears.blocks in
+        let many = hears.settles.many in
         let few : j < length old = omega (arith, h, length-map new (with_pending rest), many) in
         let before = told j no_part (omega (arith, few, length-map old (with_pending everyone))) in
         let notes : List Note = before.0 in
@@ -389,32 +390,32 @@ module _ (stake : Stake) (span : ℕ) (old : List Part) (injective : IsInjective
         )
 
 -- the blocks are the same
-pub settles_all : (lost won : ℕ → List ℕ) (old new : List Part) → AllHear lost won old new → SettlesAll old new
-settles_all lost won old new hears = record { blocks = hears.blocks; settles = hears.settles; passed = hears.passed }
-
-pub grid_still : (stake : Stake) (span : ℕ) (old new : List Part) → AreSegments stake span old → SettlesAll old new → AreSegments stake span new
+pub grid_still : (stake : Stake) (span : ℕ) (old new : List Part) → AreSegments stake span old → EachTo SettlesPast old new → AreSegments stake span new
 grid_still stake span old new grid all = record {
-  level = λ i h. (all.settles i (few i h)).same.level ∙ grid.level i (few i h);
-  gain = λ i h. (all.settles i (few i h)).same.gain ∙ grid.gain i (few i h);
-  wave = λ i h. (all.settles i (few i h)).same.wave ∙ grid.wave i (few i h);
+  level = λ i h. (settled i (few i h)).same.level ∙ grid.level i (few i h);
+  gain = λ i h. (settled i (few i h)).same.gain ∙ grid.gain i (few i h);
+  wave = λ i h. (settled i (few i h)).same.wave ∙ grid.wave i (few i h);
   within = λ i h.
-      let s = all.settles i (few i h) in
+      let s = settled i (few i h) in
       let w = grid.within i (few i h) in
       omega (arith, w, s.same.start, s.size);
   home = λ rank h.
       let at = grid.home rank h in
-      let s = all.settles (rank / span) at.0 in
-      let many = all.blocks in
+      let s = settled (rank / span) at.0 in
+      let many = all.many in
       let a = at.0 in
       let b = at.1.0 in
       let d = at.1.1 in
       ((omega (arith, a, many)), (omega (arith, b, s.same.start), omega (arith, d, s.same.start, s.size)));
   only = λ i rank h inside.
-      let s = all.settles i (few i h) in
+      let s = settled i (few i h) in
       let a = inside.0 in
       let b = inside.1 in
       grid.only i rank (few i h) (omega (arith, a, s.same.start), omega (arith, b, s.same.start, s.size));
 }
   where
     few : (i : ℕ) → i < length new → i < length old
-    few i h = let many = all.blocks in omega (arith, h, many)
+    few i h = let many = all.many in omega (arith, h, many)
+
+    settled : (i : ℕ) → i < length old → Settles (part_at old i) (part_at new i)
+    settled i h = (all.each i no_part h).settles

@@ -16,7 +16,7 @@ use Rattle.awari_block.specs.declared.cells.Mark.TheVariants as mark
 use Rattle.awari_block.specs.declared.notes.Kind.{Kind}
 use Rattle.awari_block.specs.declared.notes.Kind.TheVariants.{Won, Lost}
 use Rattle.awari_heard.proofs.SpreadBoards.{settled_value}
-use Rattle.awari_waves.specs.Waves.{StaysPassed}
+use Rattle.awari_waves.specs.Waves.{IsPassed}
 
 far_pair : (a b : ℤ × ℕ) → Some a ≡ Some b → a.1 ≡ b.1
 far_pair a b same = let both : a ≡ b = cc in ap (λ (c : ℤ × ℕ). c.1) both
@@ -42,7 +42,7 @@ heard_far old new kind x t d view unset settled =
     (ap settled_by (sym (ap (λ (c : tally.Cell). c.status) view)) ∙ settled_value new settled)
 
 -- the fresh boards stay farther than the open wave
-pub joins_passed : (old new : Part) (target pit : ℕ) (kind : Kind) → SameLevel old new → HearsNote old new target pit kind → Joins (stored_at old target) (stored_at new target) target old.fresh new.fresh → StaysPassed old new
+pub joins_passed : (old new : Part) (target pit : ℕ) (kind : Kind) → SameLevel old new → HearsNote old new target pit kind → Joins (stored_at old target) (stored_at new target) target old.fresh new.fresh → IsPassed old → IsPassed new
 joins_passed old new target pit kind same hears joins passed =
     subst (λ w. All (λ (f : Due). w < due_dist f) new.fresh) (sym same.wave) (by (is_settled (stored_at new target).mark) (is_settled (stored_at old target).mark) refl refl)
   where
@@ -57,5 +57,5 @@ joins_passed old new target pit kind same hears joins passed =
     by false true ea eb = stay (subst₂ (λ x y. JoinsIf (x && not y) (stored_at new target) target old.fresh new.fresh) ea eb joins)
     by false false ea eb = stay (subst₂ (λ x y. JoinsIf (x && not y) (stored_at new target) target old.fresh new.fresh) ea eb joins)
 
-pub same_passed : (old new : Part) → SameLevel old new → new.fresh ≡ old.fresh → StaysPassed old new
+pub same_passed : (old new : Part) → SameLevel old new → new.fresh ≡ old.fresh → IsPassed old → IsPassed new
 same_passed old new same is passed = subst₂ (λ w (fs : List Due). All (λ (f : Due). w < due_dist f) fs) (sym same.wave) (sym is) passed

@@ -3,16 +3,27 @@ use Rattle.std.proofs.Common.{◌≡◌, ◌≢◌, ℕ, ◌+◌, ◌<◌, ◌�
 use Rattle.std.proofs.lemmas.Bool.Decides.{nat_tests}
 use Rattle.std.proofs.lemmas.List.{get_or_default}
 use Rattle.awari_block.specs.Part.{Part}
-use Rattle.awari_block.specs.Boards.{Settles, stake_of}
+use Rattle.awari_block.specs.Boards.{stake_of}
+use Rattle.awari_block.proofs.ListParts.{each_at}
+use Rattle.awari_block.proofs.Settling.{settles_none, settles_both}
 use Rattle.awari_heard.specs.Level.{no_part, part_at}
-use Rattle.awari_waves.specs.Waves.{AllHear, StaysPassed, both_by}
+use Rattle.awari_waves.specs.Waves.{AllHear, SettlesPast, both_by}
 use Rattle.awari_heard.specs.Heard.{HearsNotes}
+
+-- ---- of one part
+
+pub past_none : (part : Part) → SettlesPast part part
+past_none part = record { settles = settles_none part; passed = λ passed. passed }
+
+pub past_both : (a b c : Part) → SettlesPast a b → SettlesPast b c → SettlesPast a c
+past_both a b c one two = record { settles = settles_both a b c one.settles two.settles; passed = λ passed. two.passed (one.passed passed) }
+
+-- ---- of all
 
 -- Those below k did, and the others are as they were.
 pub record HearsBelow (lost won : ℕ → List ℕ) (old now : List Part) (k : ℕ) : Type 0 where
   pub blocks : length now ≡ length old
-  pub settles : (i : ℕ) → i < k → i < length old → Settles (part_at old i) (part_at now i)
-  pub passed : (i : ℕ) → i < k → i < length old → StaysPassed (part_at old i) (part_at now i)
+  pub settles : (i : ℕ) → i < k → i < length old → SettlesPast (part_at old i) (part_at now i)
   pub tells : (i : ℕ) → i < k → i < length old → HearsNotes (both_by (stake_of (part_at old i)) (lost i) (won i)) (part_at old i) (part_at now i)
   pub others : (i : ℕ) → k ≤ i → part_at now i ≡ part_at old i
 
@@ -20,17 +31,15 @@ pub HearsBelow-none : (lost won : ℕ → List ℕ) (old : List Part) → HearsB
 HearsBelow-none lost won old = record {
   blocks = refl;
   settles = λ i less. absurd (omega arith);
-  passed = λ i less. absurd (omega arith);
   tells = λ i less. absurd (omega arith);
   others = λ i h. refl;
 }
 
-pub HearsBelow-more : (lost won : ℕ → List ℕ) (old now : List Part) (k : ℕ) (new : Part) → HearsBelow lost won old now k → k < length now → Settles (part_at now k) new → StaysPassed (part_at now k) new
+pub HearsBelow-more : (lost won : ℕ → List ℕ) (old now : List Part) (k : ℕ) (new : Part) → HearsBelow lost won old now k → k < length now → SettlesPast (part_at now k) new
     → HearsNotes (both_by (stake_of (part_at now k)) (lost k) (won k)) (part_at now k) new → HearsBelow lost won old (set now k new) (k + 1)
-HearsBelow-more lost won old now k new below inside settles stays tells = record {
+HearsBelow-more lost won old now k new below inside settles tells = record {
   blocks = length-set now k new ∙ below.blocks;
   settles = λ i less few. settled i less few (i == k) refl;
-  passed = λ i less few. passes i less few (i == k) refl;
   tells = λ i less few. told i less few (i == k) refl;
   others = λ i h. there i (omega (arith, h)) ∙ below.others i (omega (arith, h));
 }
@@ -47,15 +56,10 @@ HearsBelow-more lost won old now k new below inside settles stays tells = record
     same : part_at now k ≡ part_at old k
     same = below.others k (omega arith)
 
-    settled : (i : ℕ) → i < k + 1 → i < length old → (b : Bool) → (i == k) ≡ b → Settles (part_at old i) (part_at (set now k new) i)
+    settled : (i : ℕ) → i < k + 1 → i < length old → (b : Bool) → (i == k) ≡ b → SettlesPast (part_at old i) (part_at (set now k new) i)
     settled i less few true e =
-        subst (λ n. Settles (part_at old n) (part_at (set now k new) n)) (sym (eqb-true i k e)) (subst₂ Settles same (sym here) settles)
-    settled i less few false e = let ne = differ i k e in subst (Settles (part_at old i)) (sym (there i ne)) (below.settles i (omega (arith, ne)) few)
-
-    passes : (i : ℕ) → i < k + 1 → i < length old → (b : Bool) → (i == k) ≡ b → StaysPassed (part_at old i) (part_at (set now k new) i)
-    passes i less few true e =
-        subst (λ n. StaysPassed (part_at old n) (part_at (set now k new) n)) (sym (eqb-true i k e)) (subst₂ StaysPassed same (sym here) stays)
-    passes i less few false e = let ne = differ i k e in subst (StaysPassed (part_at old i)) (sym (there i ne)) (below.passed i (omega (arith, ne)) few)
+        subst (λ n. SettlesPast (part_at old n) (part_at (set now k new) n)) (sym (eqb-true i k e)) (subst₂ SettlesPast same (sym here) settles)
+    settled i less few false e = let ne = differ i k e in subst (SettlesPast (part_at old i)) (sym (there i ne)) (below.settles i (omega (arith, ne)) few)
 
     told : (i : ℕ) → i < k + 1 → i < length old → (b : Bool) → (i == k) ≡ b → HearsNotes (both_by (stake_of (part_at old i)) (lost i) (won i)) (part_at old i) (part_at (set now k new) i)
     told i less few true e =
@@ -67,18 +71,16 @@ HearsBelow-more lost won old now k new below inside settles stays tells = record
 
 pub HearsBelow-end : (lost won : ℕ → List ℕ) (old now : List Part) (k : ℕ) → HearsBelow lost won old now k → length now ≤ k → AllHear lost won old now
 HearsBelow-end lost won old now k below end = record {
-  blocks = below.blocks;
-  settles = λ i few. below.settles i (let many = below.blocks in omega (arith, few, many, end)) few;
-  passed = λ i few. below.passed i (let many = below.blocks in omega (arith, few, many, end)) few;
+  settles = each_at SettlesPast no_part old now below.blocks (λ i few. below.settles i (let many = below.blocks in omega (arith, few, many, end)) few);
   tells = λ i few. below.tells i (let many = below.blocks in omega (arith, few, many, end)) few;
 }
 
 -- the same, by what was read
 pub HearsBelow-next : (lost won : ℕ → List ℕ) (old now : List Part) (k : ℕ) (d new : Part) → HearsBelow lost won old now k → k < length now
-    → Settles (get_or now k d) new → StaysPassed (get_or now k d) new → HearsNotes (both_by (stake_of (get_or now k d)) (lost k) (won k)) (get_or now k d) new → HearsBelow lost won old (set now k new) (k + 1)
-HearsBelow-next lost won old now k d new below inside settles stays tells =
+    → SettlesPast (get_or now k d) new → HearsNotes (both_by (stake_of (get_or now k d)) (lost k) (won k)) (get_or now k d) new → HearsBelow lost won old (set now k new) (k + 1)
+HearsBelow-next lost won old now k d new below inside settles tells =
     let same : get_or now k d ≡ part_at now k = get_or_default now k d no_part inside in
-    HearsBelow-more lost won old now k new below inside (subst (λ (p : Part). Settles p new) same settles) (subst (λ (p : Part). StaysPassed p new) same stays)
+    HearsBelow-more lost won old now k new below inside (subst (λ (p : Part). SettlesPast p new) same settles)
     (subst (λ (p : Part). HearsNotes (both_by (stake_of p) (lost k) (won k)) p new) same tells)
 
 -- the next one is as it was

@@ -1,12 +1,13 @@
 -- The same boards, of which those that were settled keep value and distance.
-use Rattle.std.proofs.Common.{◌≡◌, ℕ, List, refl, sym, subst, ◌∙◌, arith, get_or}
+use Rattle.std.proofs.Common.{◌≡◌, ℕ, List, ap, refl, sym, subst, ◌∙◌, arith, get_or}
 use Rattle.awari_block.specs.Blocks.{cell_in}
 use Rattle.awari_block.specs.Boards.{Settles, OpensBoards}
 use Rattle.awari_block.specs.Cells.{Keeps}
 use Rattle.awari_block.specs.Part.{Part}
 use Rattle.awari_block.proofs.BlockLemmas.{keeps_both, keeps_same}
 use Rattle.awari_heard.specs.Heard.{SameBlock}
-use Rattle.awari_waves.specs.Each.{KeepsBoards, IsAtWave}
+use Rattle.awari_waves.specs.Analyses.{AnalysisView, GoesOn, GoesTo}
+use Rattle.awari_waves.specs.Each.{GoOn, KeepsBoards, IsAtWave}
 use Rattle.awari_block.specs.Each.{EachTo}
 
 pub keeps_none : (part : Part) → KeepsBoards part part
@@ -45,8 +46,28 @@ keeps_each a b c one two = record {
   each = λ i d few. keeps_then (get_or a i d) (get_or b i d) (get_or c i d) (one.each i d few) (two.each i d (let many = one.many in omega (arith, few, many)));
 }
 
-pub keeps_all : (parts : List Part) → EachTo KeepsBoards parts parts
-keeps_all parts = record { many = refl; each = λ i d few. keeps_none (get_or parts i d) }
+pub go_none : (parts : List Part) → GoOn parts parts
+go_none parts = record { stays = record { many = refl; each = λ i d few. keeps_none (get_or parts i d) }; heard = λ value heard. heard }
+
+pub go_both : (a b c : List Part) → GoOn a b → GoOn b c → GoOn a c
+go_both a b c one two = record { stays = keeps_each a b c one.stays two.stays; heard = λ value heard. two.heard value (one.heard value heard) }
+
+-- by what is seen of the level before
+pub goes_seen : (seen old new : AnalysisView) → seen ≡ old → new.level ≡ seen.level → GoOn seen.parts new.parts → GoesOn old new
+goes_seen seen old new is level parts = subst (λ (v : AnalysisView). GoesOn v new) is (record { level = level; parts = parts })
+
+pub goes_to_seen : (dist : ℕ) (seen old new : AnalysisView) → seen ≡ old → new.level ≡ seen.level → new.gain ≡ seen.gain → new.wave ≡ dist → GoOn seen.parts new.parts → GoesTo dist old new
+goes_to_seen dist seen old new is level gain wave parts = record { goes_on = goes_seen seen old new is level parts; gain = gain ∙ ap (λ (v : AnalysisView). v.gain) is; wave = wave }
+
+pub goes_both : (a b c : AnalysisView) → GoesOn a b → GoesOn b c → GoesOn a c
+goes_both a b c one two = record { level = two.level ∙ one.level; parts = go_both a.parts b.parts c.parts one.parts two.parts }
+
+pub goes_to_both : (dist : ℕ) (a b c : AnalysisView) → GoesTo dist a b → GoesTo b.wave b c → GoesTo dist a c
+goes_to_both dist a b c one two = record {
+  goes_on = goes_both a b c one.goes_on two.goes_on;
+  gain = two.gain ∙ one.gain;
+  wave = two.wave ∙ one.wave;
+}
 
 pub keeps_waved : (dist : ℕ) (old new : List Part) → EachTo (IsAtWave dist) old new → EachTo KeepsBoards old new
 keeps_waved dist old new all = record {

@@ -2,7 +2,7 @@
 use Rattle.std.proofs.Common.{◌^◌, ◌≡◌, ◌≢◌, ℕ, ◌+◌, ◌/◌, ◌<◌, ◌≤◌, ◌==◌, ◌⊎◌, inl, inr, Bool, true, false, List, [], ◌∷◌, ◌++◌, length, get_or, set, map, All, ℤ, pos, neg_ℤ, Some, refl, sym, ap, subst, subst₂, ◌∙◌, arith, eqb-true, append-nil, length-set, get_or-set_same, get_or-set_other}
 use Rattle.std.proofs.lemmas.Int.{ints}
 use Rattle.std.proofs.lemmas.List.Sorted.{All-permutation, IsPermutation-sym}
-use Rattle.awari_block.proofs.ListParts.{All-append_first, All-append_second}
+use Rattle.awari_block.proofs.ListParts.{All-append_first, All-append_second, each_at}
 use Rattle.std.proofs.lemmas.Bool.Decides.{nat_tests}
 use Rattle.std.proofs.lemmas.List.{get_or_default, length-map}
 use Rattle.awari_rank.specs.Rank.{rank_of, size_of}
@@ -16,10 +16,11 @@ use Rattle.awari_block.proofs.BlockLemmas.{one_if, times_due-cons, times_due-per
 use Rattle.awari_heard.specs.Heard.{Hears, IsSpread}
 use Rattle.awari_heard.specs.Level.{AreHeard, no_part, part_at}
 use Rattle.awari_waves.specs.Lists.{AreDistinct}
-use Rattle.awari_waves.specs.Each.{PassesFirst}
+use Rattle.awari_block.specs.Each.{EachTo}
+use Rattle.awari_waves.specs.Each.{GoOn, KeepsBoards, PassesFirst}
 use Rattle.awari_waves.specs.Fronts.{AreAtFront}
 use Rattle.awari_waves.specs.declared.chunks.Front.{Front}
-use Rattle.awari_waves.specs.Waves.{AreSegments, IsPassed, AwaitsSpread, IsPartlySpread, SettlesAll, SpreadsChunk, with_pending}
+use Rattle.awari_waves.specs.Waves.{AreSegments, IsPassed, AwaitsSpread, IsPartlySpread, SettlesPast, SpreadsChunk, with_pending}
 use Rattle.awari_waves.proofs.Sources.{distinct_apart, distinct_both, distinct_first, distinct_second}
 use Rattle.awari_waves.proofs.Chunked.{part_of_map, pend_none, pend_zero}
 use Rattle.awari_waves.proofs.Keeping.{keeps_but, keeps_none, keeps_settled, keeps_then}
@@ -257,15 +258,17 @@ waving_none stake span old lost won no_lost no_won grid =
       heard = λ value told. subst (AreHeard value) (sym (map_none old)) told;
     })
 
-pub waving_end : (stake : Stake) (span n : ℕ) (old now : List Part) (lost won : List ℕ) → lost ≡ [] → won ≡ [] → IsPartlySpread stake span n old now lost won → (value : List ℕ → ℤ) → AreHeard value old → AreHeard value now
-waving_end stake span n old now lost won no_lost no_won waving value told =
-    subst (AreHeard value) (map_none now) (subst₂ (λ (l w : List ℕ). AreHeard value (map (with_pending (l ++ w)) now)) no_lost no_won (waving.heard value told))
+pub waving_end : (stake : Stake) (span n : ℕ) (old now : List Part) (lost won : List ℕ) → lost ≡ [] → won ≡ [] → IsPartlySpread stake span n old now lost won → GoOn old now
+waving_end stake span n old now lost won no_lost no_won waving = record {
+  stays = each_at KeepsBoards no_part old now waving.blocks waving.same;
+  heard = λ value told. subst (AreHeard value) (map_none now) (subst₂ (λ (l w : List ℕ). AreHeard value (map (with_pending (l ++ w)) now)) no_lost no_won (waving.heard value told));
+}
 
-pub waving_spread : (stake : Stake) (span n : ℕ) (old now new : List Part) (lost won lost' won' : List ℕ) → lost' ≡ [] → won' ≡ [] → SpreadsChunk lost won now new → SettlesAll now new → AreSegments stake span new
+pub waving_spread : (stake : Stake) (span n : ℕ) (old now new : List Part) (lost won lost' won' : List ℕ) → lost' ≡ [] → won' ≡ [] → SpreadsChunk lost won now new → EachTo SettlesPast now new → AreSegments stake span new
     → IsPartlySpread stake span n old now lost won → IsPartlySpread stake span n old new lost' won'
 waving_spread stake span n old now new lost won lost' won' no_lost no_won spreads all grid waving =
     subst₂ (λ (l w : List ℕ). IsPartlySpread stake span n old new l w) (sym no_lost) (sym no_won) (record {
-      blocks = all.blocks ∙ waving.blocks;
+      blocks = all.many ∙ waving.blocks;
       grid = grid;
       of_lost = λ k d h. absurd (omega arith);
       of_won = λ k d h. absurd (omega arith);
@@ -273,11 +276,11 @@ waving_spread stake span n old now new lost won lost' won' no_lost no_won spread
       same = λ i h.
           let was = waving.same i h in
           let many = waving.blocks in
-          keeps_then (part_at old i) (part_at now i) (part_at new i) was (keeps_settled (part_at now i) (part_at new i) (all.settles i (omega (arith, h, many))));
+          keeps_then (part_at old i) (part_at now i) (part_at new i) was (keeps_settled (part_at now i) (part_at new i) (all.each i no_part (omega (arith, h, many))).settles);
       passed = λ i less few.
-          let many = all.blocks in
+          let many = all.many in
           let low : i < length now = omega (arith, few, many) in
-          all.passed i low (waving.passed i less low);
+          (all.each i no_part low).passed (waving.passed i less low);
       heard = λ value told.
           spreads value [] (subst AreDistinct (sym (append-nil (lost ++ won))) waving.apart)
           (subst (λ (l : List ℕ). AreHeard value (map (with_pending l) now)) (sym (append-nil (lost ++ won))) (waving.heard value told));
@@ -486,10 +489,7 @@ passes_first stake span next old new lost won grid waving reached i few before =
 -- what stands at the start stands while the wave is spread
 pub front_still : (front : Front) (old now : List Part) (k : ℕ) (lost won : List ℕ) → AreAtFront front old → IsPartlySpread front.stake (2 ^ front.log) k old now lost won → AreAtFront front now
 front_still front old now k lost won is waving = record {
-  low = is.low;
-  opened = is.opened;
-  inward = is.inward;
-  near = is.near;
+  can = is.can;
   blocks = is.blocks;
   numbers = let many = waving.blocks in let n = is.numbers in omega (arith, many, n);
   grid = waving.grid;

@@ -2,7 +2,8 @@
 use Rattle.std.specs.Prelude.{◌≡◌, ℕ, ◌+◌, ◌<◌, ◌≤◌, List, [], length, Some, All, ℤ}
 use Rattle.awari_block.specs.Blocks.{due_dist, times_due, KeepSettled}
 use Rattle.awari_block.specs.Part.{Part, InBlock, settled_at}
-use Rattle.awari_heard.specs.Level.{part_at}
+use Rattle.awari_block.specs.Each.{EachTo}
+use Rattle.awari_heard.specs.Level.{AreHeard, part_at}
 use Rattle.awari_heard.specs.Heard.{SameBlock}
 
 -- no board of these parts is fresh
@@ -33,6 +34,11 @@ HasDue dist parts =
 pub record KeepsBoards (old new : Part) : Type 0 where
   pub block : SameBlock old new
   pub stays : KeepSettled old.start old.cells new.cells
+
+-- The blocks of a level go on: they keep their boards, and what was heard is again what spread boards say.
+pub record GoOn (old new : List Part) : Type 0 where
+  pub stays : EachTo KeepsBoards old new
+  pub heard : (value : List ℕ → ℤ) → AreHeard value old → AreHeard value new
 
 -- the same boards are fresh
 abbrev pub SameFresh : Part → Part → Type 0

@@ -14,13 +14,14 @@ use Rattle.awari_unmove.specs.Predecessors.{IsPredecessors}
 use Rattle.awari_block.specs.Blocks.{due_dist, times_due}
 use Rattle.awari_block.specs.Part.{Part, InBlock, settled_at}
 use Rattle.awari_block.specs.Boards.{Settles, stake_of, value_of_kind}
+use Rattle.awari_block.specs.Each.{EachTo}
 use Rattle.awari_block.specs.declared.notes.Kind.{Kind}
 use Rattle.awari_block.specs.declared.notes.Kind.TheVariants.{Won, Lost}
 use Rattle.awari_block.specs.declared.notes.Note.{Note}
 use Rattle.awari_block.specs.declared.stakes.Stake.{Stake}
 use Rattle.awari_scan.specs.Found.{Source, code_of}
-use Rattle.awari_heard.specs.Level.{AreHeard, part_at}
-use Rattle.awari_waves.specs.Each.{KeepsBoards}
+use Rattle.awari_heard.specs.Level.{AreHeard, AreWhole, part_at}
+use Rattle.awari_waves.specs.Each.{KeepsBoards, NoneAreFresh}
 use Rattle.awari_waves.specs.Lists.{AreDistinct, list_at}
 use Rattle.awari_heard.specs.Heard.{HearsNotes}
 
@@ -47,9 +48,10 @@ IsReady part = (part.gain ≤ part.level) × (part.wave < 2 ^ 32 - 1)
 abbrev pub IsPassed : Part → Type 0
 IsPassed part = All (λ f. part.wave < due_dist f) part.fresh
 
--- and stay so
-abbrev pub StaysPassed : Part → Part → Type 0
-StaysPassed old new = IsPassed old → IsPassed new
+-- the part is settled further, and if all its fresh boards were farther they are so still
+pub record SettlesPast (old new : Part) : Type 0 where
+  pub settles : Settles old new
+  pub passed : IsPassed old → IsPassed new
 
 -- ---- what is found
 
@@ -92,9 +94,7 @@ pub record CanAllHear (lost won : ℕ → List ℕ) (parts : List Part) : Type 0
 
 -- and so did each block
 pub record AllHear (lost won : ℕ → List ℕ) (old new : List Part) : Type 0 where
-  pub blocks : length new ≡ length old
-  pub settles : (i : ℕ) → i < length old → Settles (part_at old i) (part_at new i)
-  pub passed : (i : ℕ) → i < length old → StaysPassed (part_at old i) (part_at new i)
+  pub settles : EachTo SettlesPast old new
   pub tells : (i : ℕ) → i < length old → HearsNotes (both_by (stake_of (part_at old i)) (lost i) (won i)) (part_at old i) (part_at new i)
 
 -- ---- a chunk
@@ -107,6 +107,14 @@ pub record AreSegments (stake : Stake) (span : ℕ) (parts : List Part) : Type 0
   pub within : (i : ℕ) → i < length parts → (part_at parts i).start + length (part_at parts i).cells ≤ size_of stake.level
   pub home : (rank : ℕ) → rank < size_of stake.level → (rank / span < length parts) × InBlock (part_at parts (rank / span)) rank
   pub only : (i rank : ℕ) → i < length parts → InBlock (part_at parts i) rank → rank / span ≡ i
+
+-- All boards of n stones in blocks of `span` boards, as they are scanned: no gain is open, no board is fresh, and no note was heard.
+pub record AreScannedSegments (value : List ℕ → ℤ) (n span : ℕ) (parts : List Part) : Type 0 where
+  pub grid : AreSegments (record { level = n; gain = n + 1; wave = 0 }) span parts
+  pub whole : AreWhole n parts
+  pub idle : NoneAreFresh parts
+  pub heard : AreHeard value parts
+  pub numbers : (1 ≤ length parts) × (length parts < 2 ^ 32)
 
 -- a board that was taken from the fresh ones and is not spread yet: settled at the open gain and wave
 pub record AwaitsSpread (stake : Stake) (span : ℕ) (parts : List Part) (kind : Kind) (rank : ℕ) : Type 0 where
@@ -125,12 +133,6 @@ SpreadsChunk lost won old new =
     → AreHeard value (map (with_pending ((lost ++ won) ++ rest)) old) → AreHeard value (map (with_pending rest) new)
 
 -- ---- a wave
-
--- each part is settled further
-pub record SettlesAll (old new : List Part) : Type 0 where
-  pub blocks : length new ≡ length old
-  pub settles : (i : ℕ) → i < length old → Settles (part_at old i) (part_at new i)
-  pub passed : (i : ℕ) → i < length old → StaysPassed (part_at old i) (part_at new i)
 
 -- A wave while it is spread: of the first k blocks no fresh board of the open wave is left. These boards were taken from
 -- the fresh ones and are not spread yet, and count as fresh.

@@ -1,12 +1,13 @@
 //! The analysis of a level as one value.
 
-ghost use Rattle.std.specs.Prelude.{◌≡◌, ℕ, ℤ, ◌+◌, ◌-◌, ◌^◌, ◌<◌, ◌≤◌, List, All, IfNone, IfOk, IfSome, length};
+ghost use Rattle.std.specs.Prelude.{◌≡◌, ◌+◌, ◌-◌, ◌^◌, ◌<◌, ◌≤◌, All, IfNone, IfOk, IfSome, length};
 ghost use Rattle.awari_block.specs.Counts.{spread_in};
 ghost use Rattle.awari_block.specs.Part.{IsClosed};
 ghost use Rattle.awari_table.specs.Images.{table_of};
 ghost use Rattle.awari_table.specs.declared.TheConstants.{HIGHEST_LEVEL};
 ghost use Rattle.awari_heard.specs.Level.{AreHeard, AreWhole};
-ghost use Rattle.awari_waves.specs.Each.{AreFrom, KeepsBoards, NoneAreFresh, HasDue, PassesFirst, SameFresh};
+ghost use Rattle.awari_waves.specs.Analyses.{GoesOn, GoesTo, IsNextAt};
+ghost use Rattle.awari_waves.specs.Each.{AreFrom, NoneAreFresh, HasDue, PassesFirst, SameFresh};
 ghost use Rattle.awari_block.specs.Each.{EachTo};
 
 use crate::chunks::{Front, Room};
@@ -126,11 +127,9 @@ impl Analysis {
     pub fn open_gain(self) -> Result<Analysis, AllocError>
         requires more { 2 ≤ self.gain }
         requires idle { NoneAreFresh self.parts }
-        ensures level { IfOk result (λ after. after.level ≡ self.level) }
+        ensures goes_on { IfOk result (GoesOn self) }
         ensures gain { IfOk result (λ after. after.gain + 1 ≡ self.gain) }
         ensures wave { IfOk result (λ after. after.wave ≡ 0) }
-        ensures heard { IfOk result (λ after. (value : List ℕ → ℤ) → AreHeard value self.parts → AreHeard value after.parts) }
-        ensures stays { IfOk result (λ after. EachTo KeepsBoards self.parts after.parts) }
     {
         let Analysis {
             front,
@@ -157,15 +156,9 @@ impl Analysis {
     /// greater, no fresh board is nearer, and the distance is below the greatest u32. Refused if
     /// memory runs out; then the level is lost.
     pub fn spread(self, dist: u32) -> Result<Analysis, AllocError>
-        requires opened { self.gain ≤ self.level }
-        requires timely { self.wave ≤ dist }
+        requires next { IsNextAt dist self }
         requires near { dist < 2 ^ 32 - 1 }
-        requires far { AreFrom dist self.parts }
-        ensures level { IfOk result (λ after. after.level ≡ self.level) }
-        ensures gain { IfOk result (λ after. after.gain ≡ self.gain) }
-        ensures wave { IfOk result (λ after. after.wave ≡ dist) }
-        ensures heard { IfOk result (λ after. (value : List ℕ → ℤ) → AreHeard value self.parts → AreHeard value after.parts) }
-        ensures stays { IfOk result (λ after. EachTo KeepsBoards self.parts after.parts) }
+        ensures goes_to { IfOk result (GoesTo dist self) }
         ensures farther { IfOk result (λ after. AreFrom (dist + 1) after.parts) }
     {
         let opened = self.at_distance(dist);
@@ -178,15 +171,9 @@ impl Analysis {
     /// spread together. Settled boards keep value and distance. Conditions: as for `spread`. Refused if
     /// memory runs out; then the level is lost.
     pub fn spread_some(self, dist: u32, boards: usize) -> Result<Analysis, AllocError>
-        requires opened { self.gain ≤ self.level }
-        requires timely { self.wave ≤ dist }
+        requires next { IsNextAt dist self }
         requires near { dist < 2 ^ 32 - 1 }
-        requires far { AreFrom dist self.parts }
-        ensures level { IfOk result (λ after. after.level ≡ self.level) }
-        ensures gain { IfOk result (λ after. after.gain ≡ self.gain) }
-        ensures wave { IfOk result (λ after. after.wave ≡ dist) }
-        ensures heard { IfOk result (λ after. (value : List ℕ → ℤ) → AreHeard value self.parts → AreHeard value after.parts) }
-        ensures stays { IfOk result (λ after. EachTo KeepsBoards self.parts after.parts) }
+        ensures goes_to { IfOk result (GoesTo dist self) }
         ensures from { IfOk result (λ after. AreFrom dist after.parts) }
 
         // So calls that go on with what the last one gave come to an end.
@@ -201,11 +188,7 @@ impl Analysis {
     fn spread_some_open(self, boards: usize) -> Result<Analysis, AllocError>
         requires opened { self.gain ≤ self.level }
         requires near { self.wave < 2 ^ 32 - 1 }
-        ensures level { IfOk result (λ after. after.level ≡ self.level) }
-        ensures gain { IfOk result (λ after. after.gain ≡ self.gain) }
-        ensures wave { IfOk result (λ after. after.wave ≡ self.wave) }
-        ensures heard { IfOk result (λ after. (value : List ℕ → ℤ) → AreHeard value self.parts → AreHeard value after.parts) }
-        ensures stays { IfOk result (λ after. EachTo KeepsBoards self.parts after.parts) }
+        ensures goes_to { IfOk result (GoesTo self.wave self) }
         ensures from { IfOk result (λ after. AreFrom self.wave after.parts) }
         ensures first { IfOk result (λ after. PassesFirst self.wave self.parts after.parts) }
     {
@@ -227,11 +210,7 @@ impl Analysis {
     fn spread_open(self) -> Result<Analysis, AllocError>
         requires opened { self.gain ≤ self.level }
         requires near { self.wave < 2 ^ 32 - 1 }
-        ensures level { IfOk result (λ after. after.level ≡ self.level) }
-        ensures gain { IfOk result (λ after. after.gain ≡ self.gain) }
-        ensures wave { IfOk result (λ after. after.wave ≡ self.wave) }
-        ensures heard { IfOk result (λ after. (value : List ℕ → ℤ) → AreHeard value self.parts → AreHeard value after.parts) }
-        ensures stays { IfOk result (λ after. EachTo KeepsBoards self.parts after.parts) }
+        ensures goes_to { IfOk result (GoesTo self.wave self) }
         ensures farther { IfOk result (λ after. AreFrom (self.wave + 1) after.parts) }
     {
         let Analysis {
@@ -251,11 +230,7 @@ impl Analysis {
     fn at_distance(self, dist: u32) -> Analysis
         requires timely { self.wave ≤ dist }
         requires far { AreFrom dist self.parts }
-        ensures level { result.level ≡ self.level }
-        ensures gain { result.gain ≡ self.gain }
-        ensures wave { result.wave ≡ dist }
-        ensures heard { (value : List ℕ → ℤ) → AreHeard value self.parts → AreHeard value result.parts }
-        ensures stays { EachTo KeepsBoards self.parts result.parts }
+        ensures goes_to { GoesTo dist self result }
         ensures fresh { EachTo SameFresh self.parts result.parts }
     {
         if dist <= self.front.stake.wave {

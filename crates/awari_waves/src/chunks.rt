@@ -1,9 +1,10 @@
 //! A chunk of fresh boards is spread: their notes are found, and then heard block by block.
 
 ghost use Rattle.std.specs.Prelude.{◌≡◌, ◌^◌, ◌<◌, OnOk};
+ghost use Rattle.awari_block.specs.Each.{EachTo};
 ghost use Rattle.awari_waves.specs.Lists.{list_at};
-ghost use Rattle.awari_waves.specs.Fronts.{AwaitSpread, AreAtFront, IsRoomFor};
-ghost use Rattle.awari_waves.specs.Waves.{AllHear, CanAllHear, CanFind, FindsFor, SettlesAll, SpreadsChunk};
+ghost use Rattle.awari_waves.specs.Fronts.{AwaitSpread, CanSpread};
+ghost use Rattle.awari_waves.specs.Waves.{AllHear, CanAllHear, CanFind, FindsFor, SettlesPast, SpreadsChunk};
 
 use crate::finding::find;
 use crate::lists::Lists;
@@ -70,13 +71,11 @@ pub fn spread_chunk(
     room: &mut Room,
     segments: &mut [Segment],
 ) -> Result<(), AllocError>
-    requires front { AreAtFront front segments.old }
-    requires room { IsRoomFor front room.old }
+    requires can { CanSpread front room.old segments.old }
     requires pending { AwaitSpread front segments.old room.old.chunk }
     ensures spread { OnOk result (SpreadsChunk room.old.chunk.lost.items room.old.chunk.won.items segments.old segments.new) }
-    ensures settles { OnOk result (SettlesAll segments.old segments.new) }
-    ensures front { OnOk result (AreAtFront front segments.new) }
-    ensures room { OnOk result (IsRoomFor front room.new) }
+    ensures settles { OnOk result (EachTo SettlesPast segments.old segments.new) }
+    ensures can { OnOk result (CanSpread front room.new segments.new) }
 {
     ranks_tell_boards_apart();
     moves_keep_boards();

@@ -1,13 +1,11 @@
 //! A level in blocks of one length, before any gain is open.
 
-ghost use Rattle.std.specs.Prelude.{◌≡◌, ℕ, ◌+◌, ◌*◌, ◌^◌, ◌<◌, ◌≤◌, min, IfOk, length, vec_len};
+ghost use Rattle.std.specs.Prelude.{◌≡◌, ℕ, ◌+◌, ◌*◌, ◌<◌, ◌≤◌, min, IfOk, length};
 ghost use Rattle.awari_rank.specs.Rank.{size_of};
 ghost use Rattle.awari_table.specs.Images.{table_of};
 ghost use Rattle.awari_table.specs.declared.TheConstants.{HIGHEST_LEVEL};
-ghost use Rattle.awari_heard.specs.Level.{AreHeard, AreWhole};
 ghost use Rattle.awari_scan.specs.Scan.{IsScannedPart};
-ghost use Rattle.awari_waves.specs.Each.{NoneAreFresh};
-ghost use Rattle.awari_waves.specs.Waves.{AreSegments};
+ghost use Rattle.awari_waves.specs.Waves.{AreScannedSegments};
 
 use crate::segments::Segment;
 use awari_index::Index;
@@ -28,11 +26,7 @@ pub fn scanned_segments(
     requires low { length shelf.now ≤ HIGHEST_LEVEL }
     requires level { index.now ≡ length shelf.now }
     requires some { 0 < span }
-    ensures grid { IfOk result (λ segments. AreSegments (record { level = length shelf.now; gain = length shelf.now + 1; wave = 0 }) span segments.items) }
-    ensures whole { IfOk result (λ segments. AreWhole (length shelf.now) segments.items) }
-    ensures idle { IfOk result (λ segments. NoneAreFresh segments.items) }
-    ensures heard { IfOk result (λ segments. AreHeard (table_of shelf.now).value segments.items) }
-    ensures numbers { IfOk result (λ segments. (1 ≤ vec_len segments) × (vec_len segments < 2 ^ 32)) }
+    ensures { IfOk result (λ segments. AreScannedSegments (table_of shelf.now).value (length shelf.now) span segments.items) }
 {
     let count = segments_in(size(shelf.levels()), span);
     let mut segments = Vec::new(alloc);

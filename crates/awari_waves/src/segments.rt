@@ -1,12 +1,12 @@
 //! A segment: a block of the boards of a level, with the fresh ones in lists by distance.
 
-ghost use Rattle.std.specs.Prelude.{◌≡◌, ◌/◌, ◌%◌, ◌^◌, ◌-◌, ◌<◌, ◌≤◌, IsTrue, true, All, OnOk, length};
+ghost use Rattle.std.specs.Prelude.{◌≡◌, ◌/◌, ◌%◌, ◌≤◌, IsTrue, true, All, OnOk, length};
 ghost use Rattle.awari_block.specs.Part.{stored_at};
 ghost use Rattle.awari_block.specs.Cells.{is_settled};
-ghost use Rattle.awari_block.specs.Boards.{HearsNote, Settles, stake_of};
+ghost use Rattle.awari_block.specs.Boards.{HearsNote, stake_of};
 ghost use Rattle.awari_waves.specs.Ahead.{TellSettled};
 ghost use Rattle.awari_waves.specs.Lists.{list_at};
-ghost use Rattle.awari_waves.specs.Waves.{IsCodeFor, IsReady, StaysPassed, both_by, notes_by};
+ghost use Rattle.awari_waves.specs.Waves.{IsCodeFor, IsReady, SettlesPast, both_by, notes_by};
 ghost use Rattle.awari_heard.specs.Heard.{HearsNotes};
 
 use crate::by_distance::ByDistance;
@@ -30,8 +30,7 @@ pub fn hear_row(segment: &mut Segment, number: usize, row: &Row) -> Result<(), A
     requires lost { All (IsCodeFor segment.old) (list_at row.now.lost number) }
     requires won { All (IsCodeFor segment.old) (list_at row.now.won number) }
     requires ready { IsReady segment.old }
-    ensures settles { OnOk result (Settles segment.old segment.new) }
-    ensures passed { OnOk result (StaysPassed segment.old segment.new) }
+    ensures settles { OnOk result (SettlesPast segment.old segment.new) }
     ensures tells { OnOk result (HearsNotes (both_by (stake_of segment.old) (list_at row.now.lost number) (list_at row.now.won number)) segment.old segment.new) }
 {
     hear(segment, Kind::Lost, row.list(Kind::Lost, number))?;
@@ -44,10 +43,8 @@ pub fn hear_row(segment: &mut Segment, number: usize, row: &Row) -> Result<(), A
 /// the level is lost.
 fn hear(segment: &mut Segment, kind: Kind, codes: &[u32]) -> Result<(), AllocError>
     requires codes { All (IsCodeFor segment.old) codes.now }
-    requires opened { segment.old.gain ≤ segment.old.level }
-    requires near { segment.old.wave < 2 ^ 32 - 1 }
-    ensures settles { OnOk result (Settles segment.old segment.new) }
-    ensures passed { OnOk result (StaysPassed segment.old segment.new) }
+    requires ready { IsReady segment.old }
+    ensures settles { OnOk result (SettlesPast segment.old segment.new) }
     ensures tells { OnOk result (HearsNotes (notes_by (stake_of segment.old) kind codes.now) segment.old segment.new) }
 {
     let mut start: usize = 0;
@@ -64,10 +61,8 @@ fn hear(segment: &mut Segment, kind: Kind, codes: &[u32]) -> Result<(), AllocErr
 fn hear_batch(segment: &mut Segment, kind: Kind, codes: &[u32]) -> Result<(), AllocError>
     requires few { length codes.now ≤ HEARD_AT_ONCE }
     requires codes { All (IsCodeFor segment.old) codes.now }
-    requires opened { segment.old.gain ≤ segment.old.level }
-    requires near { segment.old.wave < 2 ^ 32 - 1 }
-    ensures settles { OnOk result (Settles segment.old segment.new) }
-    ensures passed { OnOk result (StaysPassed segment.old segment.new) }
+    requires ready { IsReady segment.old }
+    ensures settles { OnOk result (SettlesPast segment.old segment.new) }
     ensures tells { OnOk result (HearsNotes (notes_by (stake_of segment.old) kind codes.now) segment.old segment.new) }
 {
     ranks_tell_boards_apart();
@@ -103,11 +98,9 @@ pub fn hear_next(
 ) -> Result<(), AllocError>
     requires code { IsCodeFor segment.old code }
     requires settled { IsTrue settled → is_settled (stored_at segment.old (code / 8)).mark ≡ true }
-    requires opened { segment.old.gain ≤ segment.old.level }
-    requires near { segment.old.wave < 2 ^ 32 - 1 }
+    requires ready { IsReady segment.old }
     ensures range { 1 ≤ segment.old.gain }
-    ensures settles { OnOk result (Settles segment.old segment.new) }
-    ensures passed { OnOk result (StaysPassed segment.old segment.new) }
+    ensures settles { OnOk result (SettlesPast segment.old segment.new) }
     ensures hears { OnOk result (HearsNote segment.old segment.new (code / 8) (code % 8) kind) }
 {
     let _ = segment.stake();

@@ -1,12 +1,11 @@
 //! A wave: all fresh boards of the open wave are spread, a chunk after the other.
 
-ghost use Rattle.std.specs.Prelude.{◌≡◌, ◌≢◌, ℕ, ℤ, ◌+◌, ◌^◌, ◌<◌, ◌≤◌, [], List, All, IfOk, IsTrue, OnOk, length};
+ghost use Rattle.std.specs.Prelude.{◌≡◌, ◌≢◌, ℕ, ◌+◌, ◌^◌, ◌<◌, ◌≤◌, [], List, All, IfOk, IsTrue, OnOk, length};
 ghost use Rattle.awari_block.specs.Part.{Part as PartView};
 ghost use Rattle.awari_block.specs.declared.stakes.Stake.{Stake as StakeView};
-ghost use Rattle.awari_heard.specs.Level.{AreHeard, part_at};
-ghost use Rattle.awari_waves.specs.Each.{KeepsBoards, PassesFirst};
-ghost use Rattle.awari_block.specs.Each.{EachTo};
-ghost use Rattle.awari_waves.specs.Fronts.{AwaitSpread, AreAtFront, IsRoomFor};
+ghost use Rattle.awari_heard.specs.Level.{part_at};
+ghost use Rattle.awari_waves.specs.Each.{GoOn, PassesFirst};
+ghost use Rattle.awari_waves.specs.Fronts.{AwaitSpread, CanSpread, IsRoomFor};
 ghost use Rattle.awari_waves.specs.Waves.{IsPassed, IsPartlySpread};
 
 use crate::chunks::{Chunk, Front, Room, spread_chunk};
@@ -24,13 +23,10 @@ pub fn spread_wave(
     room: &mut Room,
     segments: &mut [Segment],
 ) -> Result<(), AllocError>
-    requires front { AreAtFront front segments.old }
-    requires room { IsRoomFor front room.old }
-    ensures heard { OnOk result ((value : List ℕ → ℤ) → AreHeard value segments.old → AreHeard value segments.new) }
+    requires { CanSpread front room.old segments.old }
+    ensures goes_on { OnOk result (GoOn segments.old segments.new) }
     ensures passed { OnOk result (All IsPassed segments.new) }
-    ensures front { OnOk result (AreAtFront front segments.new) }
-    ensures same { OnOk result (EachTo KeepsBoards segments.old segments.new) }
-    ensures room { OnOk result (IsRoomFor front room.new) }
+    ensures can { OnOk result (CanSpread front room.new segments.new) }
 {
     room.chunk.lost.clear();
     room.chunk.won.clear();
@@ -50,13 +46,10 @@ pub fn spread_some(
     room: &mut Room,
     segments: &mut [Segment],
 ) -> Result<(), AllocError>
-    requires front { AreAtFront front segments.old }
-    requires room { IsRoomFor front room.old }
-    ensures heard { OnOk result ((value : List ℕ → ℤ) → AreHeard value segments.old → AreHeard value segments.new) }
+    requires { CanSpread front room.old segments.old }
+    ensures goes_on { OnOk result (GoOn segments.old segments.new) }
     ensures first { OnOk result (PassesFirst front.stake.wave segments.old segments.new) }
-    ensures front { OnOk result (AreAtFront front segments.new) }
-    ensures same { OnOk result (EachTo KeepsBoards segments.old segments.new) }
-    ensures room { OnOk result (IsRoomFor front room.new) }
+    ensures can { OnOk result (CanSpread front room.new segments.new) }
 {
     room.chunk.lost.clear();
     room.chunk.won.clear();
@@ -113,8 +106,7 @@ fn give(k: usize, chunk: &mut Chunk, segments: &mut [Segment]) -> Result<(), All
 
 /// Spreads the chunk, which is empty then.
 fn spread(front: Front, room: &mut Room, segments: &mut [Segment]) -> Result<(), AllocError>
-    requires front { AreAtFront front segments.old }
-    requires room { IsRoomFor front room.old }
+    requires can { CanSpread front room.old segments.old }
     requires pending { AwaitSpread front segments.old room.old.chunk }
     ensures waving { OnOk result ((old : List PartView) (k : ℕ) → IsPartlySpread front.stake (2 ^ front.log) k old segments.old room.old.chunk.lost.items room.old.chunk.won.items
         → IsPartlySpread front.stake (2 ^ front.log) k old segments.new room.new.chunk.lost.items room.new.chunk.won.items) }

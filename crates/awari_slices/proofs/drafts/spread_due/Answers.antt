@@ -8,4 +8,4 @@ spread_some-requires-clause-near c =
     c.requires.due.0 no_part c.requires.due.3 c.requires.due.1 c.requires.due.2 c.args.dist c.requires.due.4 c.requires.due.5
 
 pub returns-clause-spreads : goal.returns-clause-spreads
-returns-clause-spreads c = (c.args.dist, c.requires.far, c.requires.due, c.in_ok-analysis.ensures.first)
+returns-clause-spreads c = (c.args.dist, c.requires.next.far, c.requires.due, c.in_ok-analysis.ensures.first)

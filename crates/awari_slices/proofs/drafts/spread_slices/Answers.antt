@@ -1,14 +1,19 @@
-use Rattle.std.proofs.Common.{◌≡◌, ◌+◌, suc, subst, ◌∙◌, arith}
-use Rattle.awari_slices.specs.Drafts.{AreSlices, IsSlice}
+use Rattle.std.proofs.Common.{◌≡◌, ◌+◌, suc, refl, subst, arith}
+use Rattle.awari_slices.specs.Drafts.{AreSlices}
+use Rattle.awari_waves.proofs.Keeping.{go_none, goes_both}
 use Rattle.awari_slices.proofs.drafts.spread_slices.Goals as goal
+
+pub loop-slice-init : goal.loop-slice-init
+loop-slice-init c = record { goes_on = record { level = refl; parts = go_none _ }; slices = refl }
+
+pub spread-requires : goal.spread-requires
+spread-requires c = (c.requires.0, c.loop-slice.invariant.goes_on.parts.heard c.requires.0 c.requires.1)
 
 pub loop-slice-preserved : goal.loop-slice-preserved
 loop-slice-preserved c =
-    let done = c.in_ok-after.ensures in
-    let slice : IsSlice c.loop-slice.after c.in_ok-after.after = record { level = done.level; heard = done.heard; opens = done.opens; spreads = done.spreads } in
+    let slice = c.in_ok-after.ensures in
     let next : suc c.loop-slice._slice ≡ c.loop-slice._slice + 1 = omega arith in
     record {
-      level = done.level ∙ c.loop-slice.invariant.level;
-      heard = λ value heard. done.heard value (c.loop-slice.invariant.heard value heard);
+      goes_on = goes_both _ _ _ c.loop-slice.invariant.goes_on slice.goes_on;
       slices = subst (λ n. AreSlices n c.args.draft c.in_ok-after.after) next (c.loop-slice.after, c.loop-slice.invariant.slices, slice);
     }

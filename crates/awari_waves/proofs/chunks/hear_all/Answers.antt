@@ -29,7 +29,7 @@ hear_row-requires-clause-ready c =
 pub loop-k-preserved : goal.loop-k-preserved
 loop-k-preserved c =
     let inside : c.loop-k.k < length c.loop-k.segments = search rules in
-    HearsBelow-next _ _ _ _ _ c.index-segments-k.result c.hear_row.new.segment c.loop-k.invariant inside c.in_ok-hear_row.ensures.settles c.in_ok-hear_row.ensures.passed c.in_ok-hear_row.ensures.tells
+    HearsBelow-next _ _ _ _ _ c.index-segments-k.result c.hear_row.new.segment c.loop-k.invariant inside c.in_ok-hear_row.ensures.settles c.in_ok-hear_row.ensures.tells
 
 pub returns : goal.returns
 returns c = let end : length c.loop-k.segments ≤ c.loop-k.k = search rules in HearsBelow-end _ _ _ _ _ c.loop-k.invariant end

@@ -33,13 +33,10 @@ returns c =
     let all : size_of n ≤ number * span = subst (λ k. size_of n ≤ k * span) end (let a = c.segments_in-count.ensures.all in omega (arith, a, boards)) in
     let done = c.loop-number.invariant in
     let numbers = scanned-numbers value n span number parts low c.requires.some done all (omega (arith, c.size.ensures.some, boards)) in
-    let len = c.loop-number.segments.ok.0 in
-    let some = numbers.0 in
-    let few = numbers.1 in
     record {
       grid = scanned-grid value n span number parts low c.requires.some done all;
       whole = scanned-whole value n span number parts low c.requires.some done all;
       idle = scanned-idle value n span number parts low c.requires.some done all;
       heard = scanned-heard value n span number parts low c.requires.some done all;
-      numbers = (omega (arith, len, some), omega (arith, len, few));
+      numbers = numbers;
     }

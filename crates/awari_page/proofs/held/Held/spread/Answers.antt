@@ -1,6 +1,5 @@
 use Rattle.std.proofs.Common.{ap, sym, subst, ◌∙◌}
 use Rattle.std.specs.Prelude.{Option}
-use Rattle.awari_slices.specs.Drafts.{IsSlice}
 use Rattle.awari_table.specs.Images.{table_of}
 use Rattle.awari_waves.specs.Analyses.{AnalysisView}
 use Rattle.awari_page.specs.Held.{HeldView, IsBegun, IfBegun}
@@ -11,10 +10,8 @@ pub spread-requires : goal.spread-requires
 spread-requires c =
     let levels = c.self.inside.stored.shelf in
     let begun : IsBegun levels c.in-Some.draft = subst (λ (o : Option AnalysisView). IfBegun levels o) (sym c.in-Some.ensures.value) c.self.invariant in
-    record { heard = ((table_of levels).value, begun.heard) }
+    ((table_of levels).value, begun.heard)
 
 pub returns-in-Ok-clause-spreads : goal.returns-in-Ok-clause-spreads
 returns-in-Ok-clause-spreads c =
-    let done = c.in-Ok.ensures in
-    let slice : IsSlice c.in-Some.draft c.in-Ok.draft = record { level = done.level; heard = done.heard; opens = done.opens; spreads = done.spreads } in
-    spread_one _ _ _ _ (c.in-Some.ensures.value ∙ ap (λ (v : HeldView). v.draft) c.self.view_is) slice c.told_draft.ensures
+    spread_one _ _ _ _ (c.in-Some.ensures.value ∙ ap (λ (v : HeldView). v.draft) c.self.view_is) c.in-Ok.ensures c.told_draft.ensures

@@ -1,18 +1,20 @@
-use Rattle.std.proofs.Common.{◌^◌, ◌≡◌, ap, refl, sym, subst}
+use Rattle.std.proofs.Common.{◌^◌, ◌≡◌, ◌≤◌, ap, refl, sym, subst, arith}
 use Rattle.std.specs.Vec.{with_items}
 use Rattle.awari_block.specs.Part.{Part}
-use Rattle.awari_heard.specs.Level.{AreHeard, AreWhole}
+use Rattle.awari_heard.specs.Level.{AreWhole}
 use Rattle.awari_waves.specs.Analyses.{AnalysisView}
-use Rattle.awari_waves.specs.Each.{AreFrom, IsAtWave, KeepsBoards, SameFresh}
+use Rattle.awari_waves.specs.Each.{AreFrom, GoOn, IsAtWave, SameFresh}
 use Rattle.awari_block.specs.Each.{EachTo}
 use Rattle.awari_waves.specs.Waves.{AreSegments}
-use Rattle.awari_waves.proofs.Keeping.{keeps_all, keeps_waved}
+use Rattle.awari_waves.proofs.Keeping.{go_none, goes_to_seen, keeps_waved}
 use Rattle.awari_waves.proofs.Opened.{waved_grid, waved_heard, waved_same, whole_still}
 use Rattle.awari_waves.proofs.Stages.{can_wave, kept_items}
 use Rattle.awari_waves.proofs.analyses.Analysis.at_distance.Goals as goal
 
-pub returns-then-dist-self-clause-heard : goal.returns-then-dist-self-clause-heard
-returns-then-dist-self-clause-heard c value heard = subst (λ (v : AnalysisView). AreHeard value v.parts) (sym c.self.view_is) heard
+pub returns-then-dist-self-clause-goes_to : goal.returns-then-dist-self-clause-goes_to
+returns-then-dist-self-clause-goes_to c =
+    let timely = subst (λ (v : AnalysisView). v.wave ≤ c.args.dist) (sym c.self.view_is) c.requires.timely in
+    goes_to_seen c.args.dist _ _ _ c.self.view_is refl refl (let test = c.if-dist-self.true in omega (arith, test, timely)) (go_none c.self.inside.segments.items)
 
 pub invariant_of-result-2 : goal.invariant_of-result-2
 invariant_of-result-2 c =
@@ -32,26 +34,16 @@ invariant_of-result-2 c =
       room = before.room;
     }
 
-pub returns-clause-heard : goal.returns-clause-heard
-returns-clause-heard c value heard =
+pub returns-clause-goes_to : goal.returns-clause-goes_to
+returns-clause-goes_to c =
     let a = c.self.inside in
     let new = c.open_waves.new.segments in
     let opened : EachTo (IsAtWave c.args.dist) a.segments.items new = subst (λ l. EachTo (IsAtWave c.args.dist) l new) c.as_mut_slice.ensures.value c.open_waves.ensures.opened in
     let items : (with_items a.segments new).items ≡ new = kept_items (IsAtWave c.args.dist) a.segments new opened in
     let test = c.if-dist-self.false in
     let can = can_wave a.front.stake (2 ^ a.front.log) a.segments.items c.self.invariant.grid c.args.dist test (subst (λ (v : AnalysisView). AreFrom c.args.dist v.parts) (sym c.self.view_is) c.requires.far) in
-    subst (AreHeard value) (sym items) (waved_heard value c.args.dist a.segments.items new can opened (subst (λ (v : AnalysisView). AreHeard value v.parts) (sym c.self.view_is) heard))
-
-pub returns-then-dist-self-clause-stays : goal.returns-then-dist-self-clause-stays
-returns-then-dist-self-clause-stays c = subst (λ (v : AnalysisView). EachTo KeepsBoards v.parts c.self.inside.segments.items) c.self.view_is (keeps_all c.self.inside.segments.items)
-
-pub returns-clause-stays : goal.returns-clause-stays
-returns-clause-stays c =
-    let a = c.self.inside in
-    let new = c.open_waves.new.segments in
-    let opened : EachTo (IsAtWave c.args.dist) a.segments.items new = subst (λ l. EachTo (IsAtWave c.args.dist) l new) c.as_mut_slice.ensures.value c.open_waves.ensures.opened in
-    let items : (with_items a.segments new).items ≡ new = kept_items (IsAtWave c.args.dist) a.segments new opened in
-    subst (λ (v : AnalysisView). EachTo KeepsBoards v.parts (with_items a.segments new).items) c.self.view_is (subst (EachTo KeepsBoards a.segments.items) (sym items) (keeps_waved c.args.dist a.segments.items new opened))
+    let go_on : GoOn a.segments.items new = record { stays = keeps_waved c.args.dist a.segments.items new opened; heard = λ value. waved_heard value c.args.dist a.segments.items new can opened } in
+    goes_to_seen c.args.dist _ _ _ c.self.view_is refl refl refl (subst (GoOn a.segments.items) (sym items) go_on)
 
 pub returns-then-dist-self-clause-fresh : goal.returns-then-dist-self-clause-fresh
 returns-then-dist-self-clause-fresh c = subst (λ (v : AnalysisView). EachTo SameFresh v.parts c.self.inside.segments.items) c.self.view_is (record { many = refl; each = λ i d few. refl })

@@ -1,11 +1,11 @@
-use Rattle.std.proofs.Common.{◌^◌, ◌≡◌, ◌-◌, ◌≤◌, sym, subst, arith, rules}
+use Rattle.std.proofs.Common.{◌^◌, ◌≡◌, ◌-◌, ◌≤◌, refl, sym, subst, arith, rules}
 use Rattle.std.specs.Vec.{with_items}
-use Rattle.awari_heard.specs.Level.{AreHeard, AreWhole}
+use Rattle.awari_heard.specs.Level.{AreWhole}
 use Rattle.awari_waves.specs.Analyses.{AnalysisView}
-use Rattle.awari_waves.specs.Each.{NoneAreFresh, KeepsBoards}
+use Rattle.awari_waves.specs.Each.{GoOn, NoneAreFresh}
 use Rattle.awari_block.specs.Each.{EachTo}
 use Rattle.awari_waves.specs.Waves.{AreSegments}
-use Rattle.awari_waves.proofs.Keeping.{keeps_opened}
+use Rattle.awari_waves.proofs.Keeping.{goes_seen, keeps_opened}
 use Rattle.awari_waves.proofs.Opened.{opened_grid, opened_heard, opened_same, whole_still}
 use Rattle.awari_waves.proofs.Stages.{can_open, kept_items}
 use Rattle.awari_waves.proofs.analyses.Analysis.open_gain.Goals as goal
@@ -30,20 +30,13 @@ invariant_of-result c =
       room = before.room;
     }
 
-pub returns-clause-heard : goal.returns-clause-heard
-returns-clause-heard c value heard =
+pub returns-clause-goes_on : goal.returns-clause-goes_on
+returns-clause-goes_on c =
     let a = c.self.inside in
     let new = c.open_all.new.segments in
     let more : 2 ≤ a.front.stake.gain = search rules in
     let opened : EachTo (OpensBoards (a.front.stake.gain - 1)) a.segments.items new = subst (λ l. EachTo (OpensBoards (a.front.stake.gain - 1)) l new) c.as_mut_slice.ensures.value c.in_ok-open_all.ensures.opened in
     let items : (with_items a.segments new).items ≡ new = kept_items (OpensBoards (a.front.stake.gain - 1)) a.segments new opened in
     let can = can_open a.front.stake (2 ^ a.front.log) a.segments.items c.self.invariant.grid (a.front.stake.gain - 1) (omega (arith, more)) (omega (arith, more)) (subst (λ (v : AnalysisView). NoneAreFresh v.parts) (sym c.self.view_is) c.requires.idle) in
-    subst (AreHeard value) (sym items) (opened_heard value (a.front.stake.gain - 1) a.segments.items new can opened (subst (λ (v : AnalysisView). AreHeard value v.parts) (sym c.self.view_is) heard))
-
-pub returns-clause-stays : goal.returns-clause-stays
-returns-clause-stays c =
-    let a = c.self.inside in
-    let new = c.open_all.new.segments in
-    let opened : EachTo (OpensBoards (a.front.stake.gain - 1)) a.segments.items new = subst (λ l. EachTo (OpensBoards (a.front.stake.gain - 1)) l new) c.as_mut_slice.ensures.value c.in_ok-open_all.ensures.opened in
-    let items : (with_items a.segments new).items ≡ new = kept_items (OpensBoards (a.front.stake.gain - 1)) a.segments new opened in
-    subst (λ (v : AnalysisView). EachTo KeepsBoards v.parts (with_items a.segments new).items) c.self.view_is (subst (EachTo KeepsBoards a.segments.items) (sym items) (keeps_opened (a.front.stake.gain - 1) a.segments.items new opened))
+    let go_on : GoOn a.segments.items new = record { stays = keeps_opened (a.front.stake.gain - 1) a.segments.items new opened; heard = λ value. opened_heard value (a.front.stake.gain - 1) a.segments.items new can opened } in
+    goes_seen _ _ _ c.self.view_is refl (subst (GoOn a.segments.items) (sym items) go_on)

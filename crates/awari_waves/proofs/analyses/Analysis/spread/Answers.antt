@@ -1,5 +1,5 @@
-use Rattle.awari_waves.proofs.Keeping.{keeps_each}
+use Rattle.awari_waves.proofs.Keeping.{goes_to_both}
 use Rattle.awari_waves.proofs.analyses.Analysis.spread.Goals as goal
 
-pub returns-clause-stays : goal.returns-clause-stays
-returns-clause-stays c = keeps_each _ _ _ c.at_distance-opened.ensures.stays c.in_ok-after.ensures.stays
+pub returns-clause-goes_to : goal.returns-clause-goes_to
+returns-clause-goes_to c = goes_to_both _ _ _ _ c.at_distance-opened.ensures.goes_to c.in_ok-after.ensures.goes_to
