@@ -1,8 +1,7 @@
 -- Owners before and after the phase of a gain.
 use Rattle.std.proofs.Common.{◌≡◌, ℕ, ◌+◌, ◌<◌, List, ℤ, length, get_or, ap, sym, subst, ◌∙◌, arith}
 use Rattle.awari_phase.specs.declared.owners.Owner.{Owner}
-use Rattle.awari_phase.specs.Owners.{AllGrown, AreFinished, AreIdle}
-use Rattle.awari_build.specs.Owned.{AreAt}
+use Rattle.awari_phase.specs.Owners.{AllGrown, AreAt, AreFinished, AreIdle}
 
 -- at rest, with this gain open in each part
 abbrev pub AreOpened : (List ℕ → ℤ) → ℕ → ℕ → List Owner → Type 0

@@ -4,13 +4,12 @@ ghost use Rattle.std.specs.Prelude.{◌≡◌, ◌⊎◌, ◌≤◌, ◌<◌, �
 ghost use Rattle.awari_table.specs.Images.{table_of};
 ghost use Rattle.awari_table.specs.declared.TheConstants.{HIGHEST_LEVEL};
 ghost use Rattle.awari_lines.specs.Rings.{HaveRoom};
-ghost use Rattle.awari_phase.specs.Owners.{all_ends};
+ghost use Rattle.awari_phase.specs.Owners.{AreAt, all_ends};
 ghost use Rattle.awari_phase.specs.PhaseFault.{IsStop, IsWant};
 ghost use Rattle.awari_phase.specs.declared.faults.PhaseFault.{PhaseFault};
 ghost use Rattle.awari_build.specs.BuildFault.{IsOfPhase, IsStopped};
 ghost use Rattle.awari_build.specs.NextLevel.{IsNextLevel};
 ghost use Rattle.awari_build.specs.Settled.{AreSettled};
-ghost use Rattle.awari_build.specs.Owned.{AreAt};
 ghost use Rattle.awari_pace.specs.Paces.{HasOwners, IsPaced};
 
 use crate::faults::BuildFault;

@@ -1,5 +1,5 @@
 -- The owners of a level before any gain is open.
-use Rattle.std.proofs.Common.{◌≡◌, ℕ, ◌<◌, ◌≤◌, Option, Some, None, List, [], ◌∷◌, ◌++◌, length, map, All, ℤ, refl, sym, ap, subst, ◌∙◌, arith, get_or}
+use Rattle.std.proofs.Common.{◌≡◌, ℕ, ◌+◌, ◌<◌, ◌≤◌, Option, Some, None, List, [], ◌∷◌, ◌++◌, length, map, All, ℤ, refl, sym, ap, subst, ◌∙◌, arith, get_or}
 use Rattle.std.proofs.lemmas.List.{length-map, map-append}
 use Rattle.std.proofs.lemmas.List.Elements.{All-push}
 use Rattle.awari_owner.specs.Outboxes.{notes_of, queue_to}
@@ -10,7 +10,7 @@ use Rattle.awari_lines.specs.Seats.{seat_of}
 use Rattle.awari_lines.specs.declared.ends.Ends.{Ends}
 use Rattle.awari_lines.specs.declared.ends.RingPair.{RingPair}
 use Rattle.awari_phase.specs.declared.owners.Owner.{Owner}
-use Rattle.awari_phase.specs.Owners.{AreFinished, IsScannedWith, IsSound, Notes, all_ends, ends_of, given_to, items_of, notes_boxed, notes_given, notes_taken}
+use Rattle.awari_phase.specs.Owners.{AreAt, AreFinished, IsScannedWith, IsSound, Notes, all_ends, ends_of, given_to, items_of, notes_boxed, notes_given, notes_taken}
 use Rattle.awari_phase.proofs.Grown.{ends_at}
 
 -- these are the owners of these ends, as they are scanned
@@ -46,7 +46,7 @@ scanned value n owners o unused count s = sound_scanned value n o.ends.owner (ow
     given : (j : ℕ) → IsOther o.ends j → given_to o.ends o.outboxes j ≡ []
     given j q = ap (λ (l : List Notes). map items_of l ++ queue_to o.outboxes j) (none_sent _ (unused (seat_of o.ends.owner j))) ∙ none j q
 
-pub finished_scanned : (value : List ℕ → ℤ) (n owners : ℕ) (es : List (Ends Notes)) (os : List Owner) → 1 ≤ owners → length es ≡ owners → IsGrid es → AllUnused es → ScannedTo value n owners es os → AreFinished value n os
+finished_scanned : (value : List ℕ → ℤ) (n owners : ℕ) (es : List (Ends Notes)) (os : List Owner) → 1 ≤ owners → length es ≡ owners → IsGrid es → AllUnused es → ScannedTo value n owners es os → AreFinished value n os
 finished_scanned value n owners es os first count g unused s =
     let many : length os ≡ owners = sym (length-map os ends_of) ∙ (ap length s.ends ∙ count) in
     let ends : (i : ℕ) (d : Owner) → i < length os → get_or es i d.ends ≡ (get_or os i d).ends = λ i d h. ap (λ l. get_or l i d.ends) (sym s.ends) ∙ ends_at os i d.ends d h in
@@ -64,3 +64,10 @@ finished_scanned value n owners es os first count g unused s =
       gain = λ i d h. (s.each i d h).part.scan.gain ∙ sym (s.each 0 d one).part.scan.gain;
       wave = λ i d h. (s.each i d h).part.scan.wave ∙ sym (s.each 0 d one).part.scan.wave;
     }
+
+pub scanned_at : (value : List ℕ → ℤ) (n owners : ℕ) (es : List (Ends Notes)) (os : List Owner) → 1 ≤ owners → length es ≡ owners → IsGrid es → AllUnused es → ScannedTo value n owners es os → AreAt value n (n + 1) os
+scanned_at value n owners es os first count g unused s = record {
+  finished = finished_scanned value n owners es os first count g unused s;
+  idle = λ i d h. (s.each i d h).part.scan.fresh;
+  gain = λ i d h. (s.each i d h).part.scan.gain;
+}

@@ -11,7 +11,7 @@ use Rattle.awari_block.specs.Part.{Part}
 use Rattle.awari_owner.specs.declared.faults.OwnerFault.{OwnerFault}
 use Rattle.awari_block.specs.declared.notes.Note.{Note}
 use Rattle.awari_phase.specs.declared.owners.Owner.{Owner}
-use Rattle.awari_phase.specs.Owners.{AllGrown, AreFinished, AreReceived, AreTogether, IsOpenBatch, Kept, Notes, OpenBehind, JoinsWave, Swept, all_ends, ends_of, items_of, rest_of}
+use Rattle.awari_phase.specs.Owners.{AllGrown, AreFinished, AreReceived, AreTogether, IsOpenBatch, Kept, Notes, OpenBehind, JoinsWave, Rounds, Swept, all_ends, ends_of, items_of, rest_of}
 use Rattle.awari_phase.specs.PhaseFault.{AreWell}
 use Rattle.awari_phase.specs.Stops.{HasWorked, HaveWorked}
 use Rattle.awari_phase.proofs.Grown.{grid_after, grid_pairs}
@@ -67,14 +67,14 @@ module _ (os ps qs : List Owner) (same : qs ≡ ps) (worked : HaveWorked os ps) 
   none : (i : ℕ) (d : Owner) → i < length os → (get_or ps i d).fault ≡ None
   none i d h = let w = worked.many in let long = ap length same in subst (λ (l : List Owner). (get_or l i d).fault ≡ None) same (well i d (omega (arith, h, w, long)))
 
-  pub well_kept : EachTo Kept os ps
+  well_kept : EachTo Kept os ps
   well_kept = record { many = worked.many; each = λ i d h. (worked.each i d h).kept (none i d h) }
 
-  pub well_swept : EachTo Swept os ps
+  well_swept : EachTo Swept os ps
   well_swept = record { many = worked.many; each = λ i d h. (worked.each i d h).swept (none i d h) }
 
 -- owners that kept what a worker keeps are sound together where they were
-pub together_kept : (value : List ℕ → ℤ) (n : ℕ) (os ps : List Owner) → EachTo Kept os ps → AreTogether value n os → AreTogether value n ps
+together_kept : (value : List ℕ → ℤ) (n : ℕ) (os ps : List Owner) → EachTo Kept os ps → AreTogether value n os → AreTogether value n ps
 together_kept value n os ps all t = record {
   some = (let s = t.some in let long = all.many in omega (arith, s, long));
   grid = grid_after os ps all t.grid;
@@ -107,6 +107,12 @@ together_kept value n os ps all t = record {
               (All-weaker (IsOpenBatch there.part) (IsOpenBatch (get_or ps j d).part) (open_stake there.part (get_or ps j d).part (all.each j d (low j h')).block) (map items_of o.after ++ map items_of gone.0)
               (All-append (IsOpenBatch there.part) (map items_of o.after) (map items_of gone.0) o.opened (gone.2 value (t.sound j d (low j h')))));
         }
+
+-- so a round was made of them
+pub rounds : (os ps qs : List Owner) → qs ≡ ps → HaveWorked os ps → AreWell qs → IsGrid (all_ends os) → Rounds os ps
+rounds os ps qs same worked well grid =
+    let kept = well_kept os ps qs same worked well in
+    record { kept = kept; swept = well_swept os ps qs same worked well; grid = worked_grid os ps worked grid; together = λ value n. together_kept value n os ps kept }
 
 -- what a slice that worked writes back
 pub written_worked : (os now new : List Owner) (n : ℕ) → n ≡ length os → now ≡ os → HaveWorked now new → HaveWorked os (take n (new ++ drop (length new) os))

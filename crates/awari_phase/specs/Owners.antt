@@ -7,8 +7,10 @@ use Rattle.awari_block.specs.declared.notes.Note.{Note}
 use Rattle.arrayvec.specs.ArrayVec.{ArrayVec}
 use Rattle.awari_owner.specs.Outboxes.{IsBatch, Outboxes, queue_to, notes_of}
 use Rattle.awari_block.specs.Blocks.{KeepSettled}
+use Rattle.awari_block.specs.Each.{EachTo}
 use Rattle.awari_block.specs.Part.{Part, IsLeastDue, unspread}
 use Rattle.awari_owner.specs.Sound.{IsScannedOwner, IsCurrentNote, OpensGain, OwnerSound, SameStake}
+use Rattle.awari_owner.specs.Spread.{IsPartOf}
 use Rattle.awari_phase.specs.declared.owners.Owner.{Owner}
 
 -- a batch is the list of its notes
@@ -61,6 +63,12 @@ pub record KeepsOwner (e : Ends Notes) (part : Part) (o : Outboxes) (e' : Ends N
 
 abbrev pub Kept : Owner → Owner → Type 0
 Kept a b = KeepsOwner a.ends a.part a.outboxes b.ends b.part b.outboxes
+
+-- these are the part, the ends and the outboxes of one owner, one of as many
+pub record AreOfOne (part : Part) (e : Ends Notes) (o : Outboxes) : Type 0 where
+  pub queues : length o.queues ≡ owners_of e
+  pub numbered : o.owner ≡ e.owner
+  pub part_of : IsPartOf part o
 
 -- a batch of owner j was taken, or none is known to wait
 abbrev pub HasTaken : Owner → Owner → ℕ → Type 0
@@ -201,3 +209,26 @@ StayTogether os ps = (value : List ℕ → ℤ) (n : ℕ) → AreTogether value 
 
 abbrev pub StayFinished : List Owner → List Owner → Type 0
 StayFinished os ps = (value : List ℕ → ℤ) (n : ℕ) → AreFinished value n os → AreFinished value n ps
+
+-- Between two gains: no board is fresh and nothing is on its way, each owner is sound, and each part has this gain open.
+pub record AreAt (value : List ℕ → ℤ) (n opened : ℕ) (os : List Owner) : Type 0 where
+  pub finished : AreFinished value n os
+  pub idle : AreIdle os
+  pub gain : (i : ℕ) (d : Owner) → i < length os → (slice_index_or os i d).part.gain ≡ opened
+
+-- ---- what rounds make of owners
+
+-- A round was made: each owner kept what a worker keeps and made a sweep, and they are back on their grid, together if they were.
+pub record Rounds (os ps : List Owner) : Type 0 where
+  pub kept : EachTo Kept os ps
+  pub swept : EachTo Swept os ps
+  pub grid : IsGrid (all_ends ps)
+  pub together : StayTogether os ps
+
+-- The rounds of a gain are over: no board is fresh, and nothing is to be sent or waits on a ring.
+pub record ClosesGain (os ps : List Owner) : Type 0 where
+  pub grown : AllGrown os ps
+  pub idle : AreIdle ps
+  pub sent : AreSent ps
+  pub received : AreReceived ps
+  pub finished : StayFinished os ps

@@ -1,12 +1,11 @@
 //! The owners of a level, before any gain is open, and their parts at the end.
 
-ghost use Rattle.std.specs.Prelude.{◌≡◌, ◌+◌, ◌<◌, ◌≤◌, ℕ, All, IfOk, length, slice_index_or, vec_len};
+ghost use Rattle.std.specs.Prelude.{◌≡◌, ◌+◌, ◌<◌, ◌≤◌, All, IfOk, length, vec_len};
 ghost use Rattle.awari_lines.specs.Rings.{HaveRoom, owners_of};
 ghost use Rattle.awari_block.specs.Part.{IsClosed};
 ghost use Rattle.awari_table.specs.Images.{table_of};
 ghost use Rattle.awari_table.specs.declared.TheConstants.{HIGHEST_LEVEL};
-ghost use Rattle.awari_phase.specs.Owners.{AreFinished, AreIdle, IsScannedWith, all_ends, parts_of};
-ghost use Rattle.awari_phase.specs.declared.owners.Owner.{Owner as AnOwner};
+ghost use Rattle.awari_phase.specs.Owners.{AreAt, IsScannedWith, all_ends, parts_of};
 
 use crate::owners::Owner;
 use awari_block::ClosedPart;
@@ -32,10 +31,8 @@ pub fn scanned_owners<R: Threads + Sync>(
     requires room { (1 ≤ room) × (room ≤ 256) }
     requires low { length shelf.now ≤ HIGHEST_LEVEL }
     ensures count { IfOk result (λ all. vec_len all ≡ owners) }
-    ensures finished { IfOk result (λ all. AreFinished (table_of shelf.now).value (length shelf.now) all.items) }
-    ensures idle { IfOk result (λ all. AreIdle all.items) }
+    ensures begun { IfOk result (λ all. AreAt (table_of shelf.now).value (length shelf.now) (length shelf.now + 1) all.items) }
     ensures room { IfOk result (λ all. HaveRoom room (all_ends all.items)) }
-    ensures gain { IfOk result (λ all. (i : ℕ) (d : AnOwner) → i < owners → (slice_index_or all.items i d).part.gain ≡ length shelf.now + 1) }
 {
     let grid = grid(alloc, owners, room)?;
     let mut all = Vec::with_capacity(alloc, grid.len())?;

@@ -47,16 +47,14 @@ impl Owner {
     ghost use Rattle.std.specs.Prelude.{◌≡◌, ◌+◌, ◌<◌, ◌≤◌, ℕ, None, Ok, Some, IfErr, OnOk, false, true};
     ghost use Rattle.awari_lines.specs.Rings.{IsOther, owners_of};
     ghost use Rattle.awari_block.specs.Part.{IsLeastDue, unspread};
-    ghost use Rattle.awari_phase.specs.Owners.{HasSent, HasSpread, HasTaken, Kept, Swept};
+    ghost use Rattle.awari_phase.specs.Owners.{AreOfOne, HasSent, HasSpread, HasTaken, Kept, Swept};
     ghost use Rattle.awari_phase.specs.Steps.{SendsAt, TakesAt, TakesNothing};
     ghost use Rattle.awari_phase.specs.Stops.{HasWorked, Stopped};
 
     /// The owner of this part of a level, with these ends of its rings to the others and these
     /// outboxes. Condition: all three are those of one owner, one of as many.
     pub fn new(part: Part, ends: Ends<Batch>, outboxes: Outboxes) -> Owner
-        requires queues { length outboxes.queues ≡ owners_of ends }
-        requires numbered { outboxes.owner ≡ ends.owner }
-        requires part_of { IsPartOf part outboxes }
+        requires { AreOfOne part ends outboxes }
         ensures part { result.part ≡ part }
         ensures ends { result.ends ≡ ends }
         ensures outboxes { result.outboxes ≡ outboxes }

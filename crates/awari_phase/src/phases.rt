@@ -1,11 +1,10 @@
 //! Rounds, until a gain is closed.
 
 ghost use Rattle.std.specs.Prelude.{◌≡◌, ◌⊎◌, ◌≤◌, All, IsTrue, false, IsNone, IfSome, IfOk, IfErr, [], slice_get};
-ghost use Rattle.awari_block.specs.Each.{EachTo};
 ghost use Rattle.awari_lines.specs.Rings.{IsGrid};
 ghost use Rattle.awari_block.specs.Blocks.{due_dist};
 ghost use Rattle.awari_block.specs.Counts.{spread_in};
-ghost use Rattle.awari_phase.specs.Owners.{AllGrown, AreIdle, AreReceived, AreSent, Kept, StayFinished, StayTogether, all_ends, parts_of};
+ghost use Rattle.awari_phase.specs.Owners.{AllGrown, AreIdle, AreReceived, AreSent, ClosesGain, Rounds, StayTogether, all_ends, parts_of};
 ghost use Rattle.awari_phase.specs.PhaseFault.{IfTogether, IsPhaseRefusal, IsRefusal, IsStop, IsWant};
 ghost use Rattle.awari_phase.specs.declared.owners.Owner.{Owner as AnOwner};
 
@@ -42,11 +41,7 @@ pub fn gain_phase<R: Threads + Wait + Sync, G: Gate + Sync>(
 ) -> Result<Vec<Owner>, PhaseFault>
     requires sweeps { (1 ≤ sweeps) × (sweeps ≤ 1000) }
     requires grid { IsGrid (all_ends owners.items) }
-    ensures grown { IfOk result (λ all. AllGrown owners.items all.items) }
-    ensures idle { IfOk result (λ all. AreIdle all.items) }
-    ensures sent { IfOk result (λ all. AreSent all.items) }
-    ensures received { IfOk result (λ all. AreReceived all.items) }
-    ensures finished { IfOk result (λ all. StayFinished owners.items all.items) }
+    ensures closes { IfOk result (λ all. ClosesGain owners.items all.items) }
     ensures refused { IfErr result (IsPhaseRefusal owners.items) }
     ensures wanting { IfErr result (IfTogether owners.items IsWant) }
 {
@@ -64,11 +59,7 @@ pub fn gain_phase_with_progress<R: Threads + Wait + Sync, G: Gate + Sync, P: Pro
 ) -> Result<Vec<Owner>, PhaseFault>
     requires sweeps { (1 ≤ sweeps) × (sweeps ≤ 1000) }
     requires grid { IsGrid (all_ends owners.items) }
-    ensures grown { IfOk result (λ all. AllGrown owners.items all.items) }
-    ensures idle { IfOk result (λ all. AreIdle all.items) }
-    ensures sent { IfOk result (λ all. AreSent all.items) }
-    ensures received { IfOk result (λ all. AreReceived all.items) }
-    ensures finished { IfOk result (λ all. StayFinished owners.items all.items) }
+    ensures closes { IfOk result (λ all. ClosesGain owners.items all.items) }
     ensures refused { IfErr result (λ fault. IsPhaseRefusal owners.items fault ⊎ IsStop P.stops fault) }
     ensures wanting { IfErr result (IfTogether owners.items (λ fault. IsWant fault ⊎ IsStop P.stops fault)) }
 {
@@ -115,9 +106,7 @@ fn next_round<R: Threads + Wait + Sync, G: Gate + Sync>(
 ) -> Result<Vec<Owner>, PhaseFault>
     requires sweeps { (1 ≤ sweeps) × (sweeps ≤ 1000) }
     requires grid { IsGrid (all_ends owners.items) }
-    ensures kept { IfOk result (λ all. EachTo Kept owners.items all.items) }
-    ensures grid { IfOk result (λ all. IsGrid (all_ends all.items)) }
-    ensures together { IfOk result (λ all. StayTogether owners.items all.items) }
+    ensures rounds { IfOk result (λ all. Rounds owners.items all.items) }
     ensures refused { IfErr result (IsRefusal owners.items) }
     ensures wanting { IfErr result (IfTogether owners.items IsWant) }
 {

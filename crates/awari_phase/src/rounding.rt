@@ -1,10 +1,9 @@
 //! Rounds: all owners work, each in a thread of its own, or one after the other.
 
 ghost use Rattle.std.specs.Prelude.{◌≡◌, ◌≤◌, ℕ, ℤ, List, IsNone, IfOk, IfErr, IfSome};
-ghost use Rattle.awari_block.specs.Each.{EachTo};
 ghost use Rattle.awari_lines.specs.Rings.{IsGrid};
 ghost use Rattle.awari_table.specs.declared.TheConstants.{HIGHEST_LEVEL};
-ghost use Rattle.awari_phase.specs.Owners.{AreTogether, Kept, StayTogether, Swept, all_ends};
+ghost use Rattle.awari_phase.specs.Owners.{AreTogether, Rounds, all_ends};
 ghost use Rattle.awari_phase.specs.PhaseFault.{AreWell, IfTogether, IsFirstFault, IsRefusal, IsWant, fault_of};
 ghost use Rattle.awari_phase.specs.Stops.{HaveWorked};
 ghost use Rattle.awari_phase.specs.declared.owners.Owner.{Owner as AnOwner};
@@ -42,10 +41,7 @@ pub fn round<R: Threads + Wait + Sync, G: Gate + Sync>(
 ) -> Result<Vec<Owner>, PhaseFault>
     requires sweeps { (1 ≤ sweeps) × (sweeps ≤ 1000) }
     requires grid { IsGrid (all_ends owners.items) }
-    ensures kept { IfOk result (λ all. EachTo Kept owners.items all.items) }
-    ensures swept { IfOk result (λ all. EachTo Swept owners.items all.items) }
-    ensures grid { IfOk result (λ all. IsGrid (all_ends all.items)) }
-    ensures together { IfOk result (λ all. StayTogether owners.items all.items) }
+    ensures rounds { IfOk result (λ all. Rounds owners.items all.items) }
     ensures refused { IfErr result (IsRefusal owners.items) }
     ensures wanting { IfErr result (IfTogether owners.items IsWant) }
 {
@@ -62,10 +58,7 @@ pub(crate) fn round_with<R: Threads + Wait + Sync, G: Gate + Sync>(
 ) -> Result<Vec<Owner>, PhaseFault>
     requires sweeps { (1 ≤ sweeps) × (sweeps ≤ 1000) }
     requires grid { IsGrid (all_ends owners.items) }
-    ensures kept { IfOk result (λ all. EachTo Kept owners.items all.items) }
-    ensures swept { IfOk result (λ all. EachTo Swept owners.items all.items) }
-    ensures grid { IfOk result (λ all. IsGrid (all_ends all.items)) }
-    ensures together { IfOk result (λ all. StayTogether owners.items all.items) }
+    ensures rounds { IfOk result (λ all. Rounds owners.items all.items) }
     ensures refused { IfErr result (IsRefusal owners.items) }
     ensures wanting { IfErr result (IfTogether owners.items IsWant) }
 {

@@ -17,7 +17,7 @@ returns-in-Ok-clause-closed g c = λ value n gain at.
     let same = written c.open_gain.new.owners c.args.owners.items c.args.owners.len (c.open_gain.auto.owners ∙ ap length c.as_mut_slice.ensures.value ∙ sym c.args.owners.ok.0) (sym c.args.owners.ok.0) in
     phase_ends value n gain c.open_gain.new.owners _ c.in-Ok.all.items same
     (next_open value n gain c.args.owners.items c.as_mut_slice.result.now c.open_gain.new.owners c.as_mut_slice.ensures.value c.open_gain.auto.owners c.open_gain.ensures.finished (λ i d h. (c.open_gain.ensures.each.each i d h).gain) at)
-    c.in-Ok.ensures.grown c.in-Ok.ensures.idle c.in-Ok.ensures.finished
+    c.in-Ok.ensures.closes.grown c.in-Ok.ensures.closes.idle c.in-Ok.ensures.closes.finished
 
 pub returns-in-Err-clause-phase : goal.returns-in-Err-clause-phase
 returns-in-Err-clause-phase g c =

@@ -1,7 +1,7 @@
 use Rattle.std.proofs.Common.{◌≡◌, ◌+◌, ◌-◌, length, sym, subst, arith}
 use Rattle.awari_table.specs.Images.{table_of}
 use Rattle.awari_build.specs.Settled.{AreSettled}
-use Rattle.awari_build.specs.Owned.{AreAt}
+use Rattle.awari_phase.specs.Owners.{AreAt}
 use Rattle.awari_build.proofs.owned.settled_parts.Goals as goal
 
 pub loop-gain-init : goal.loop-gain-init

@@ -1,6 +1,6 @@
 use Rattle.std.proofs.Common.{◌≡◌, ℕ, ◌+◌, ◌≤◌, length}
 use Rattle.awari_table.specs.Images.{table_of}
-use Rattle.awari_build.specs.Owned.{AreAt}
+use Rattle.awari_phase.specs.Owners.{AreAt}
 use Rattle.awari_build.proofs.owned.settled_parts.Given as goal
 
 abbrev pub invariant-loop-gain : goal.invariant-loop-gain

@@ -3,4 +3,4 @@ use Rattle.awari_owner_tests.proofs.rounds.next_round.Goals as goal
 
 pub returns : goal.returns
 returns g c =
-    all_grown_kept c.args.owners.items c.in_ok-owners.owners.items c.in_ok-owners.ensures.kept c.requires
+    all_grown_kept c.args.owners.items c.in_ok-owners.owners.items c.in_ok-owners.ensures.rounds.kept c.requires

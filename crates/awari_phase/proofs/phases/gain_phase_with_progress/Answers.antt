@@ -7,27 +7,22 @@ use Rattle.awari_phase.proofs.phases.gain_phase_with_progress.Goals as goal
 
 pub loop-init : goal.loop-init
 loop-init g c = record {
-  grown = all_grown_kept c.args.owners.items c.in_ok-all.all.items c.in_ok-all.ensures.kept c.requires.grid;
-  together = λ value n t. c.in_ok-all.ensures.together value n t;
+  grown = all_grown_kept c.args.owners.items c.in_ok-all.all.items c.in_ok-all.ensures.rounds.kept c.requires.grid;
+  together = λ value n t. c.in_ok-all.ensures.rounds.together value n t;
 }
 
-pub returns-then-not-is_more-clause-grown : goal.returns-then-not-is_more-clause-grown
-returns-then-not-is_more-clause-grown g c =
-    rw (written_back _ _ _ _ c.loop.all.ok.0 c.as_mut_slice.ensures.value c.is_more.auto.owners) (all_grown_trans c.args.owners.items c.loop.all.items c.is_more.new.owners c.loop.invariant.grown (rw c.as_mut_slice.ensures.value at c.is_more.ensures.grown))
-
-pub returns-then-not-is_more-clause-idle : goal.returns-then-not-is_more-clause-idle
-returns-then-not-is_more-clause-idle g c =
-    rw (written_back _ _ _ _ c.loop.all.ok.0 c.as_mut_slice.ensures.value c.is_more.auto.owners) (c.is_more.ensures.idle c.if-not-is_more.true)
-
-pub returns-then-not-is_more-clause-sent : goal.returns-then-not-is_more-clause-sent
-returns-then-not-is_more-clause-sent g c =
-    rw (written_back _ _ _ _ c.loop.all.ok.0 c.as_mut_slice.ensures.value c.is_more.auto.owners) (c.is_more.ensures.sent c.if-not-is_more.true)
-
-pub returns-then-not-is_more-clause-finished : goal.returns-then-not-is_more-clause-finished
-returns-then-not-is_more-clause-finished g c = λ value n finished.
-    rw (written_back _ _ _ _ c.loop.all.ok.0 c.as_mut_slice.ensures.value c.is_more.auto.owners) (finished_grown value n c.args.owners.items c.is_more.new.owners
-    (all_grown_trans c.args.owners.items c.loop.all.items c.is_more.new.owners c.loop.invariant.grown (rw c.as_mut_slice.ensures.value at c.is_more.ensures.grown))
-    (c.is_more.ensures.sent c.if-not-is_more.true) (c.is_more.ensures.received c.if-not-is_more.true) finished)
+pub returns-then-not-is_more-clause-closes : goal.returns-then-not-is_more-clause-closes
+returns-then-not-is_more-clause-closes g c =
+    let over = c.if-not-is_more.true in
+    let looked : AllGrown c.loop.all.items c.is_more.new.owners = rw c.as_mut_slice.ensures.value at c.is_more.ensures.grown in
+    let grown = all_grown_trans c.args.owners.items c.loop.all.items c.is_more.new.owners c.loop.invariant.grown looked in
+    rw (written_back _ _ _ _ c.loop.all.ok.0 c.as_mut_slice.ensures.value c.is_more.auto.owners) (record {
+      grown = grown;
+      idle = c.is_more.ensures.idle over;
+      sent = c.is_more.ensures.sent over;
+      received = c.is_more.ensures.received over;
+      finished = λ value n finished. finished_grown value n c.args.owners.items c.is_more.new.owners grown (c.is_more.ensures.sent over) (c.is_more.ensures.received over) finished;
+    })
 
 pub loop-preserved : goal.loop-preserved
 loop-preserved g c =
@@ -37,8 +32,8 @@ loop-preserved g c =
       grown =
           all_grown_trans c.args.owners.items c.is_more.new.owners c.in_ok-all-2.all.items
           (all_grown_trans c.args.owners.items c.loop.all.items c.is_more.new.owners c.loop.invariant.grown looked)
-          (all_grown_kept c.is_more.new.owners c.in_ok-all-2.all.items (rw back at c.in_ok-all-2.ensures.kept) looked.grid);
-      together = λ value n t. c.in_ok-all-2.ensures.together value n (rw back (c.is_more.ensures.together value n (rw c.as_mut_slice.ensures.value (c.loop.invariant.together value n t))));
+          (all_grown_kept c.is_more.new.owners c.in_ok-all-2.all.items (rw back at c.in_ok-all-2.ensures.rounds.kept) looked.grid);
+      together = λ value n t. c.in_ok-all-2.ensures.rounds.together value n (rw back (c.is_more.ensures.together value n (rw c.as_mut_slice.ensures.value (c.loop.invariant.together value n t))));
     }
 
 pub returns-in_err-all-clause-wanting : goal.returns-in_err-all-clause-wanting
