@@ -22,7 +22,7 @@ fn main(rt: HostRuntime) -> ExitCode {
             };
             let on_terminal = streams.errors.is_terminal();
             let mut disk = Disk::new(&rt, rt.alloc()).told_on_terminal(on_terminal);
-            let status = run(&rt, &mut disk, rt.alloc(), words.as_slice(), &mut streams);
+            let status = run(&rt, rt.alloc(), &mut disk, words.as_slice(), &mut streams);
             streams.output.tell(&mut streams.errors);
             ExitCode::from(status)
         }

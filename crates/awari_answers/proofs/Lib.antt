@@ -4,7 +4,6 @@ pub mod WishLaws
 pub mod TextLaws
 pub mod PrintLaws
 pub mod LevelLineLaws
-pub mod LineJsonLaws
 pub mod PlyLines
 mod LineCounts
 pub mod Requests

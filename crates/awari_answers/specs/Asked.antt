@@ -1,6 +1,8 @@
--- The levels in a folder, and the commands that ask them about one board.
-use Rattle.std.specs.Prelude.{◌≡◌, ℕ, List, Option, min, sum}
+-- The levels in a folder, the commands that ask them about one board, and why a command gives no answer.
+use Rattle.std.specs.Prelude.{◌≡◌, ℕ, List, ◌++◌, Option, codes, min, sum}
+use Rattle.std.specs.Fmt.{decimal}
 use Rattle.awari_board.specs.BoardFault.{fault_text as board_fault_text}
+use Rattle.awari_board.specs.MoveFault.{fault_text as move_fault_text}
 use Rattle.awari_board.specs.Rules.{IsBoard}
 use Rattle.awari_board.specs.Text.{text_of}
 use Rattle.awari_folder.specs.Contents.{IsStoredToIn}
@@ -11,7 +13,7 @@ use Rattle.awari_table.specs.Shelves.{IsShelf}
 use Rattle.awari_table.specs.declared.TheConstants.{HIGHEST_LEVEL}
 use Rattle.awari_table.specs.declared.images.Image.{Image}
 use Rattle.awari_answers.specs.declared.asked.NoAnswer.{NoAnswer}
-use Rattle.awari_answers.specs.declared.asked.NoAnswer.TheVariants.{Board, Folder, NotYet, Line}
+use Rattle.awari_answers.specs.declared.asked.NoAnswer.TheVariants.{Board, Move, MoveAt, Folder, NotYet, Line, Memory, NoRank, Overflow, Span, Column}
 
 -- These are right levels: those up to this one that the folder stores, where it is known what its names have.
 pub record AreLevelsTo (most : ℕ) (stands : ℕ → Option (Option (List ℕ))) (images : List Image) : Type 0 where
@@ -25,9 +27,16 @@ pub record IsAsked (stands : ℕ → Option (Option (List ℕ))) (text : List �
   pub whole : IsBoard board
   pub spelled : text ≡ text_of board
 
--- the fault inside it
+-- the fault inside it, and the number of a move among several; or its number, its name and its field
 abbrev pub no_answer_text : NoAnswer → List ℕ
 no_answer_text (Board fault) = board_fault_text fault
+no_answer_text (Move fault) = move_fault_text fault
+no_answer_text (MoveAt fault number) = move_fault_text fault ++ codes " at " ++ decimal number
 no_answer_text (Folder fault) = folder_fault_text fault
 no_answer_text (NotYet fault) = not_yet_text fault
 no_answer_text (Line fault) = line_fault_text fault
+no_answer_text Memory = codes "84 Memory"
+no_answer_text (NoRank boards) = codes "93 NoRank boards " ++ decimal boards
+no_answer_text Overflow = codes "94 Overflow"
+no_answer_text Span = codes "95 Span"
+no_answer_text Column = codes "96 Column"

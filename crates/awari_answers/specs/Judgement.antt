@@ -4,16 +4,16 @@ use Rattle.std.specs.Borrow.{Bor}
 use Rattle.std.specs.List.{flat_map}
 use Rattle.std.specs.Fmt.{decimal, signed_decimal}
 use Rattle.std.specs.Io.KnownBytes.{Appends}
-use Rattle.awari_board.specs.BoardFault.{IsFaulty, fault_text as board_fault_text}
-use Rattle.awari_board.specs.MoveFault.{IsDue, fault_text as move_fault_text}
+use Rattle.awari_board.specs.BoardFault.{IsFaulty}
+use Rattle.awari_board.specs.MoveFault.{IsDue}
 use Rattle.awari_board.specs.Rules.{IsBoard}
 use Rattle.awari_board.specs.Text.{text_of}
 use Rattle.awari_board.specs.declared.moves.MoveFault.{MoveFault}
 use Rattle.awari_game.specs.Plays.{Standing, start, IsPlay, IsOutcome}
 use Rattle.awari_game.specs.Shown.{greatest_u64}
+use Rattle.awari_answers.specs.declared.asked.NoAnswer.{NoAnswer}
+use Rattle.awari_answers.specs.declared.asked.NoAnswer.TheVariants.{Board, MoveAt}
 use Rattle.awari_answers.specs.declared.judgements.Judgement.{Judgement}
-use Rattle.awari_answers.specs.declared.judgements.JudgeFault.{JudgeFault}
-use Rattle.awari_answers.specs.declared.judgements.JudgeFault.TheVariants.{Board, Move}
 
 -- the pit that a byte names: a digit is a pit's number, and any other byte is no pit's
 abbrev pub pit_named : ℕ → ℕ
@@ -52,9 +52,10 @@ pub record IsRefusedAt (board pits : List ℕ) (number : ℕ) (fault : MoveFault
   pub due : IsDue standing.board pit fault
 
 -- the fault of the text, or where it is that of a board, the first fault of a move
-abbrev pub IsJudgeFault : List ℕ → List ℕ → JudgeFault → Type 0
+abbrev pub IsJudgeFault : List ℕ → List ℕ → NoAnswer → Type 0
 IsJudgeFault text moves (Board fault) = IsFaulty text fault
-IsJudgeFault text moves (Move fault number) = (board : List ℕ) × IsBoard board × (text ≡ text_of board) × IsRefusedAt board (pits_named moves) number fault
+IsJudgeFault text moves (MoveAt fault number) = (board : List ℕ) × IsBoard board × (text ≡ text_of board) × IsRefusedAt board (pits_named moves) number fault
+IsJudgeFault text moves other = ⊥
 
 abbrev pub outcome_text : Option ℤ → List ℕ
 outcome_text None = codes "none"
@@ -62,11 +63,6 @@ outcome_text (Some outcome) = signed_decimal outcome
 
 abbrev pub judgement_text : Judgement → List ℕ
 judgement_text j = codes "board " ++ text_of j.board ++ codes "\nrunning " ++ signed_decimal j.running ++ codes "\nquiet " ++ decimal j.quiet ++ codes "\noutcome " ++ outcome_text j.outcome
-
--- the fault inside it, and the number of the move
-abbrev pub judge_fault_text : JudgeFault → List ℕ
-judge_fault_text (Board fault) = board_fault_text fault
-judge_fault_text (Move fault number) = move_fault_text fault ++ codes " at " ++ decimal number
 
 -- Where it is known what the writer holds, what was written is the judgement of the play of these moves, and the line feed.
 abbrev pub PrintsJudgement : List ℕ → ℕ → List ℕ → Option (List ℕ) → Option (List ℕ) → Type 0

@@ -1,9 +1,9 @@
 -- The line of a level: how many of its boards are won, even and lost, and its limit.
 use Rattle.std.specs.Prelude.{◌≡◌, ℕ, List, ◌++◌, ◌∷◌, [], length, codes}
-use Rattle.std.specs.Fmt.{decimal}
 use Rattle.std.specs.List.{flat_map}
+use Rattle.awari_members.specs.Members.{Named, line_text, number}
+use Rattle.awari_queries.specs.declared.boards.Form.TheVariants.{Text}
 use Rattle.awari_table.specs.Images.{won_boards, even_boards, lost_boards}
-use Rattle.awari_table.specs.declared.images.Counts.{Counts}
 use Rattle.awari_table.specs.declared.images.Image.{Image}
 use Rattle.awari_answers.specs.declared.telling.LevelLine.{LevelLine}
 
@@ -16,11 +16,13 @@ pub record IsToldOf (image : Image) (told : LevelLine) : Type 0 where
   pub lost : told.counts.lost ≡ lost_boards image.entries
   pub limit : told.limit ≡ image.limit
 
-abbrev pub shares_text : Counts → List ℕ
-shares_text counts = codes "won " ++ decimal counts.won ++ codes " even " ++ decimal counts.even ++ codes " lost " ++ decimal counts.lost
+-- its numbers, with their names
+abbrev pub level_members : LevelLine → List Named
+level_members told = number (codes "level") told.level ∷ number (codes "boards") told.boards ∷ number (codes "won") told.counts.won ∷ number (codes "even") told.counts.even
+    ∷ number (codes "lost") told.counts.lost ∷ number (codes "limit") told.limit ∷ []
 
 abbrev pub told_text : LevelLine → List ℕ
-told_text told = codes "level " ++ decimal told.level ++ codes " boards " ++ decimal told.boards ++ codes " " ++ shares_text told.counts ++ codes " limit " ++ decimal told.limit
+told_text told = line_text Text (level_members told)
 
 -- the line of a level
 unfoldable pub level_line : Image → List ℕ

@@ -1,11 +1,12 @@
 -- The command `line`: the play in which both sides follow the plans of a folder's levels, or one side holds out; and what is printed of it.
-use Rattle.std.specs.Prelude.{◌≡◌, ℕ, ◌<◌, Bool, true, false, List, ◌++◌, ◌∷◌, [], length, map, sum, codes, ℤ, Option}
+use Rattle.std.specs.Prelude.{◌≡◌, ℕ, ◌<◌, Bool, true, false, List, ◌++◌, ◌∷◌, [], length, sum, codes, ℤ, Option}
 use Rattle.std.specs.Fmt.{decimal, signed_decimal}
 use Rattle.std.specs.List.{flat_map}
 use Rattle.std.specs.Io.KnownBytes.{Appends}
+use Rattle.awari_members.specs.Members.{line_text as line_text_in, number, pits, signed, text}
 use Rattle.awari_play.specs.BestLine.{IsBestLine}
-use Rattle.awari_play.specs.Json.{array, member, object, quoted}
 use Rattle.awari_play.specs.LongestLine.{IsLongestLine}
+use Rattle.awari_queries.specs.declared.boards.Form.TheVariants.{Json}
 use Rattle.awari_table.specs.Images.{entry_of, greatest_limit, table_of}
 use Rattle.awari_table.specs.declared.images.Image.{Image}
 use Rattle.awari_answers.specs.Asked.{IsAsked}
@@ -34,7 +35,7 @@ PrintsLine stands text before after = (value : ℤ) × (moves : List ℕ) × (ou
     × Appends before after (line_text value moves outcome ++ 10 ∷ [])
 
 -- The levels in the folder say this value and this distance of the board that the text spells, and these moves are the play from it in
--- which the favoured side follows their plans and the other side holds out: it has just so many plies.
+-- which the favoured side follows their plans and the other side holds out: it has exactly that many plies.
 pub record IsLongestLineOf (stands : ℕ → Option (Option (List ℕ))) (text : List ℕ) (value : ℤ) (dist : ℕ) (moves : List ℕ) : Type 0 where
   pub images : List Image
   pub board : List ℕ
@@ -54,12 +55,10 @@ PrintsLongestLine stands text before after = (value : ℤ) × (dist : ℕ) × (m
 
 -- the same lines as JSON, with the text of the board
 unfoldable pub line_json : List ℕ → ℤ → List ℕ → ℤ → List ℕ
-line_json board value moves outcome = object (member (codes "board") (quoted board) ∷ member (codes "value") (signed_decimal value)
-    ∷ member (codes "moves") (array (map decimal moves)) ∷ member (codes "outcome") (signed_decimal outcome) ∷ [])
+line_json bytes value moves outcome = line_text_in Json (text (codes "board") bytes ∷ signed (codes "value") value ∷ pits (codes "moves") moves ∷ signed (codes "outcome") outcome ∷ [])
 
 unfoldable pub longest_json : List ℕ → ℤ → ℕ → List ℕ → List ℕ
-longest_json board value dist moves = object (member (codes "board") (quoted board) ∷ member (codes "value") (signed_decimal value)
-    ∷ member (codes "distance") (decimal dist) ∷ member (codes "moves") (array (map decimal moves)) ∷ [])
+longest_json bytes value dist moves = line_text_in Json (text (codes "board") bytes ∷ signed (codes "value") value ∷ number (codes "distance") dist ∷ pits (codes "moves") moves ∷ [])
 
 abbrev pub PrintsLineJson : (ℕ → Option (Option (List ℕ))) → List ℕ → Option (List ℕ) → Option (List ℕ) → Type 0
 PrintsLineJson stands text before after = (value : ℤ) × (moves : List ℕ) × (outcome : ℤ) × IsLineOf stands text value moves outcome
@@ -75,11 +74,3 @@ PrintsLineBy true true stands text before after = PrintsLongestJson stands text 
 PrintsLineBy true false stands text before after = PrintsLongestLine stands text before after
 PrintsLineBy false true stands text before after = PrintsLineJson stands text before after
 PrintsLineBy false false stands text before after = PrintsLine stands text before after
-
--- The pits within such an array. Private functions alone go by these: no public contract does.
-abbrev pub later_pits : List ℕ → List ℕ
-later_pits moves = flat_map (λ pit. codes "," ++ decimal pit) moves
-
-abbrev pub pits_text : List ℕ → List ℕ
-pits_text [] = []
-pits_text (pit ∷ moves) = decimal pit ++ later_pits moves

@@ -1,14 +1,12 @@
 -- The command `line` with `--plies`: a line of play ply by ply, by a folder's levels.
-use Rattle.std.specs.Prelude.{ℕ, ◌<◌, Bool, true, false, List, [], ◌∷◌, ◌++◌, length, sum, take, codes, ℤ, Option, Some, None}
-use Rattle.std.specs.Fmt.{decimal, signed_decimal}
+use Rattle.std.specs.Prelude.{ℕ, ◌<◌, Bool, false, List, [], ◌∷◌, ◌++◌, length, sum, take, codes, Option, Some, None}
 use Rattle.std.specs.List.{flat_map}
 use Rattle.std.specs.Io.KnownBytes.{Appends}
-use Rattle.awari_board.specs.Text.{text_of}
-use Rattle.awari_play.specs.Json.{member, object, quoted}
-use Rattle.awari_play.specs.Plies.{AreLinePlies, ply_text, repeat_text}
+use Rattle.awari_members.specs.Members.{Named, board, line_text, number, signed}
+use Rattle.awari_play.specs.Plies.{AreLinePlies}
 use Rattle.awari_play.specs.declared.plies.Ply.{Ply}
 use Rattle.awari_play.specs.declared.plies.Repeat.{Repeat}
-use Rattle.awari_table.specs.declared.images.Entry.{Entry}
+use Rattle.awari_queries.specs.Boards.{form_of}
 use Rattle.awari_table.specs.declared.images.Image.{Image}
 use Rattle.awari_answers.specs.Asked.{IsAsked}
 
@@ -20,23 +18,16 @@ pub record ArePliesOf (longest : Bool) (stands : ℕ → Option (Option (List �
   pub known : sum board < length images
   pub told : AreLinePlies longest images board plies repeat
 
--- a ply as JSON, and where the line comes back to a board
-unfoldable pub ply_json : Ply → List ℕ
-ply_json ply = object (member (codes "ply") (decimal ply.number) ∷ member (codes "pit") (decimal ply.pit) ∷ member (codes "captures") (decimal ply.captured)
-    ∷ member (codes "running") (signed_decimal ply.running) ∷ member (codes "board") (quoted (text_of ply.board))
-    ∷ member (codes "value") (signed_decimal ply.entry.value) ∷ member (codes "distance") (decimal ply.entry.dist) ∷ [])
+-- a ply, and where the line comes back to a board
+abbrev pub ply_members : Ply → List Named
+ply_members ply = number (codes "ply") ply.number ∷ number (codes "pit") ply.pit ∷ number (codes "captures") ply.captured ∷ signed (codes "running") ply.running
+    ∷ board (codes "board") ply.board ∷ signed (codes "value") ply.entry.value ∷ number (codes "distance") ply.entry.dist ∷ []
 
-unfoldable pub repeat_json : Repeat → List ℕ
-repeat_json r = object (member (codes "repeats") (decimal r.first) ∷ [])
+unfoldable pub shown_ply : Bool → Ply → List ℕ
+shown_ply json ply = line_text (form_of json false) (ply_members ply)
 
--- the same as JSON, or as a line
-abbrev pub shown_ply : Bool → Ply → List ℕ
-shown_ply true ply = ply_json ply
-shown_ply false ply = ply_text ply
-
-abbrev pub shown_repeat : Bool → Repeat → List ℕ
-shown_repeat true r = repeat_json r
-shown_repeat false r = repeat_text r
+unfoldable pub shown_repeat : Bool → Repeat → List ℕ
+shown_repeat json r = line_text (form_of json false) (number (codes "repeats") r.first ∷ [])
 
 -- each ply with a line feed (10) behind it
 abbrev pub shown_plies : Bool → List Ply → List ℕ
@@ -51,8 +42,3 @@ shown_line json plies (Some r) = shown_plies json (take r.again plies) ++ (shown
 abbrev pub PrintsPlies : (ℕ → Option (Option (List ℕ))) → Bool → Bool → List ℕ → Option (List ℕ) → Option (List ℕ) → Type 0
 PrintsPlies stands longest json text before after = (plies : List Ply) × (repeat : Option Repeat) × ArePliesOf longest stands text plies repeat
     × Appends before after (shown_line json plies repeat)
-
--- What stands after a ply, within such an object. Private functions alone go by this: no public contract does.
-abbrev pub then_json : ℤ → List ℕ → Entry → List ℕ
-then_json running board e = codes "\"running\":" ++ (signed_decimal running ++ (codes ",\"board\":\"" ++ (text_of board
-    ++ (codes "\",\"value\":" ++ (signed_decimal e.value ++ (codes ",\"distance\":" ++ decimal e.dist))))))

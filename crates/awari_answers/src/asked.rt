@@ -1,5 +1,5 @@
 //! What the commands have in common that ask the levels in a folder about one board: the board, the
-//! levels, and why there is no answer.
+//! levels, and why a command gives no answer.
 
 ghost use Rattle.std.specs.Prelude.{◌≡◌, ◌≤◌, ◌↔◌, Err, IfOk, length};
 ghost use Rattle.awari_board.specs.BoardFault.{IsFaulty};
@@ -10,13 +10,14 @@ ghost use Rattle.awari_answers.specs.Refusals.{folder_name_of};
 ghost use Rattle.awari_answers.specs.declared.asked.NoAnswer.TheVariants as no_answer;
 
 use crate::levels::load_levels;
-use awari_board::{Board, BoardFault, one_board_fault_is_due};
+use awari_board::{Board, BoardFault, MoveFault, one_board_fault_is_due};
 use awari_folder::{Folder, FolderFault};
 use awari_play::LineFault;
 use awari_table::{NotYet, Shelf};
-use std::alloc::Global;
+use std::alloc::{AllocError, Global};
 use std::fmt;
 use std::thread::Threads;
+use thiserror::Error;
 
 /// A board, and the levels in a folder up to the board's.
 #[derive(Drop)]
@@ -25,35 +26,57 @@ pub struct Asked {
     pub shelf: Shelf,
 }
 
-/// Why a folder gives no answer about a board. It is printed as the fault inside it.
-#[derive(Clone, Copy)]
+/// Why a command that only reads gives no answer. It is printed as the fault inside it, or as its number, its
+/// name and its field.
+#[derive(Clone, Copy, Debug, PartialEq, Eq, Error)]
 pub enum NoAnswer {
     /// The text is not a board.
     Board { fault: BoardFault },
-    /// The folder is not loaded.
+    /// The pit can't be played.
+    Move { fault: MoveFault },
+    /// The move of this number, counted from 1 over all words, can't be played. The words may share
+    /// their bytes, so the number need not fit into a `usize`.
+    MoveAt { fault: MoveFault, number: u128 },
+    /// The folder is not loaded, or a file of it not read.
     Folder { fault: FolderFault },
-    /// 59: the board has at least as many stones as the folder has levels.
+    /// 59: the folder lacks the level, or it is above the highest.
     NotYet { fault: NotYet },
     /// The levels have no line of play from the board, or there is no room for it.
     Line { fault: LineFault },
+    /// 84: there is no memory.
+    Memory,
+    /// 93: the level has only this many boards, and the rank is none of theirs.
+    NoRank { boards: u32 },
+    /// 94: there are 2^64 plays or more.
+    Overflow,
+    /// 95: what is asked for is no span of numbers.
+    Span,
+    /// 96: what is asked for is no column, or it is not said how many boards are to be sorted.
+    Column,
 }
 
 impl NoAnswer {
     ghost use Rattle.awari_answers.specs.Refusals.{name_of, number_of};
 
-    /// The number of the fault inside it.
+    /// Its number, or that of the fault inside it.
     pub(crate) fn number(self) -> u8
         ensures { result ≡ number_of self }
     {
         match self {
             NoAnswer::Board { fault } => fault.number(),
+            NoAnswer::Move { fault } | NoAnswer::MoveAt { fault, .. } => fault.number(),
             NoAnswer::Folder { fault } => fault.number(),
             NoAnswer::NotYet { fault } => fault.number(),
             NoAnswer::Line { fault } => fault.number(),
+            NoAnswer::Memory => 84,
+            NoAnswer::NoRank { .. } => 93,
+            NoAnswer::Overflow => 94,
+            NoAnswer::Span => 95,
+            NoAnswer::Column => 96,
         }
     }
 
-    /// The name of the fault inside it.
+    /// Its name, or that of the fault inside it.
     pub(crate) fn name(self) -> &'static [u8]
         ensures name { result.now ≡ name_of self }
         ensures short { length result.now ≤ 20 }
@@ -64,12 +87,23 @@ impl NoAnswer {
                 BoardFault::Number => b"Number",
                 BoardFault::TooMany => b"TooMany",
             },
+            NoAnswer::Move { fault } | NoAnswer::MoveAt { fault, .. } => match fault {
+                MoveFault::NoPit => b"NoPit",
+                MoveFault::Ended => b"Ended",
+                MoveFault::EmptyPit => b"EmptyPit",
+                MoveFault::MustFeed => b"MustFeed",
+            },
             NoAnswer::Folder { fault } => folder_name_of(fault),
             NoAnswer::NotYet { .. } => b"NotYet",
             NoAnswer::Line { fault } => match fault {
                 LineFault::NotYet { .. } => b"NotYet",
                 LineFault::Memory => b"Memory",
             },
+            NoAnswer::Memory => b"Memory",
+            NoAnswer::NoRank { .. } => b"NoRank",
+            NoAnswer::Overflow => b"Overflow",
+            NoAnswer::Span => b"Span",
+            NoAnswer::Column => b"Column",
         }
     }
 }
@@ -98,6 +132,14 @@ impl From<BoardFault> for NoAnswer {
     }
 }
 
+impl From<MoveFault> for NoAnswer {
+    ghost from_gives = { λ fault e. e ≡ no_answer.Move fault };
+
+    fn from(fault: MoveFault) -> Self {
+        NoAnswer::Move { fault }
+    }
+}
+
 impl From<FolderFault> for NoAnswer {
     ghost from_gives = { λ fault e. e ≡ no_answer.Folder fault };
 
@@ -122,6 +164,14 @@ impl From<LineFault> for NoAnswer {
     }
 }
 
+impl From<AllocError> for NoAnswer {
+    ghost from_gives = { λ _ e. e ≡ no_answer.Memory };
+
+    fn from(_error: AllocError) -> Self {
+        NoAnswer::Memory
+    }
+}
+
 impl fmt::Display for NoAnswer {
     ghost use Rattle.std.specs.Prelude.{Some};
     ghost use Rattle.awari_answers.specs.Asked.{no_answer_text};
@@ -131,9 +181,16 @@ impl fmt::Display for NoAnswer {
     fn fmt<W: fmt::Write>(&self, f: &mut fmt::Formatter<W>) -> fmt::Result {
         match *self {
             NoAnswer::Board { fault } => write!(f, "{fault}"),
+            NoAnswer::Move { fault } => write!(f, "{fault}"),
+            NoAnswer::MoveAt { fault, number } => write!(f, "{fault} at {number}"),
             NoAnswer::Folder { fault } => write!(f, "{fault}"),
             NoAnswer::NotYet { fault } => write!(f, "{fault}"),
             NoAnswer::Line { fault } => write!(f, "{fault}"),
+            NoAnswer::Memory => write!(f, "84 Memory"),
+            NoAnswer::NoRank { boards } => write!(f, "93 NoRank boards {boards}"),
+            NoAnswer::Overflow => write!(f, "94 Overflow"),
+            NoAnswer::Span => write!(f, "95 Span"),
+            NoAnswer::Column => write!(f, "96 Column"),
         }
     }
 }
@@ -143,8 +200,8 @@ impl fmt::Display for NoAnswer {
 /// whatever the folder holds. It takes the memory that [`load_levels`] takes.
 pub fn ask_folder<T: Threads + Sync, F: Folder>(
     rt: &T,
-    folder: &mut F,
     alloc: Global,
+    folder: &mut F,
     text: &[u8],
 ) -> Result<Asked, NoAnswer>
     ensures asked { IfOk result (λ found. IsAsked (F.state folder.old).stands text.now found.shelf found.board) }
@@ -154,6 +211,6 @@ pub fn ask_folder<T: Threads + Sync, F: Folder>(
     // Ghost: a text has at most one fault.
     one_board_fault_is_due();
     let board = Board::parse(text)?;
-    let shelf = load_levels(rt, folder, alloc, board.stones())?;
+    let shelf = load_levels(rt, alloc, folder, board.stones())?;
     Ok(Asked { board, shelf })
 }

@@ -17,11 +17,12 @@ use crate::printing::{print, print_bytes, refuse, status_of};
 use crate::remarks::Replies;
 use crate::streams::Streams;
 use crate::watching::load_watched;
-use crate::wishes::{VerifyQuery, has_wished_digest, has_wished_levels};
+use crate::wishes::{has_wished_digest, has_wished_levels};
 use arrayvec::ArrayString;
 use awari_board::Board;
 use awari_folder::{Folder, Stored};
 use awari_play::{entry_json, hex_digit};
+use awari_queries::VerifyQuery;
 use awari_table::{Entry, Shelf, line_of_entry};
 use std::alloc::Global;
 use std::fmt;
@@ -82,15 +83,15 @@ pub(crate) fn hex_of(digest: &[u8; 32]) -> ArrayString<64>
 /// The board that `text` spells, and its entry, as the levels in the folder have it.
 fn look_up<T: Threads + Sync, F: Folder>(
     rt: &T,
-    folder: &mut F,
     alloc: Global,
+    folder: &mut F,
     text: &[u8],
 ) -> Result<(Board, Entry), NoAnswer>
     ensures entry { IfOk result (λ found. IsEntryOf (F.state folder.old).stands text.now found.0 found.1) }
     ensures same { Same (F.state folder.old).stands (F.state folder.new).stands }
     ensures board { (fault : BoardFault) → (result ≡ Err (no_answer.Board fault)) ↔ IsFaulty text.now fault }
 {
-    let asked = ask_folder(rt, folder, alloc, text)?;
+    let asked = ask_folder(rt, alloc, folder, text)?;
     let entry = asked.shelf.entry(&asked.board)?;
     Ok((asked.board, entry))
 }
@@ -98,8 +99,8 @@ fn look_up<T: Threads + Sync, F: Folder>(
 /// Prints the entry of a board, or the refusal.
 pub fn run_ask<T: Threads + Sync, F: Folder, W: Replies>(
     rt: &T,
-    folder: &mut F,
     alloc: Global,
+    folder: &mut F,
     board: &str,
     writer: &mut W,
 ) -> u8
@@ -107,7 +108,7 @@ pub fn run_ask<T: Threads + Sync, F: Folder, W: Replies>(
     ensures found { result ≡ 0 → PrintsEntry (F.state folder.old).stands board.now (W.contents writer.old) (W.contents writer.new) }
     ensures same { Same (F.state folder.old).stands (F.state folder.new).stands }
 {
-    match look_up(rt, folder, alloc, board.as_bytes()) {
+    match look_up(rt, alloc, folder, board.as_bytes()) {
         Ok((_, entry)) => status_of(print_bytes(writer, line_of_entry(entry).as_slice())),
         Err(fault) => refuse(writer, fault),
     }
@@ -116,8 +117,8 @@ pub fn run_ask<T: Threads + Sync, F: Folder, W: Replies>(
 /// Prints the board with its entry, or the refusal, as JSON in one line.
 pub fn run_ask_json<T: Threads + Sync, F: Folder, W: Replies>(
     rt: &T,
-    folder: &mut F,
     alloc: Global,
+    folder: &mut F,
     board: &str,
     writer: &mut W,
 ) -> u8
@@ -125,7 +126,7 @@ pub fn run_ask_json<T: Threads + Sync, F: Folder, W: Replies>(
     ensures found { result ≡ 0 → PrintsEntryJson (F.state folder.old).stands board.now (W.contents writer.old) (W.contents writer.new) }
     ensures same { Same (F.state folder.old).stands (F.state folder.new).stands }
 {
-    match look_up(rt, folder, alloc, board.as_bytes()) {
+    match look_up(rt, alloc, folder, board.as_bytes()) {
         Ok((found, entry)) => {
             let line = entry_json(&found, entry);
             status_of(print_bytes(writer, line.as_slice()))
@@ -142,8 +143,8 @@ pub fn run_ask_json<T: Threads + Sync, F: Folder, W: Replies>(
 /// error stream is told what was wished, and what was found.
 pub fn run_verify<T: Threads + Sync, F: Folder, R, W: Write, E: Write>(
     rt: &T,
-    folder: &mut F,
     alloc: Global,
+    folder: &mut F,
     query: VerifyQuery<'_>,
     streams: &mut Streams<R, W, E>,
 ) -> u8
@@ -151,7 +152,7 @@ pub fn run_verify<T: Threads + Sync, F: Folder, R, W: Write, E: Write>(
     ensures verified { result ≡ 0 → PrintsFolder query.entry.levels query.entry.digest (F.state folder.old).stands (W.contents streams.old.output) (W.contents streams.new.output) }
     ensures same { Same (F.state folder.old).stands (F.state folder.new).stands }
 {
-    let stored = match load_watched(rt, folder, alloc, query.progress, &mut streams.errors) {
+    let stored = match load_watched(rt, alloc, folder, query.progress, &mut streams.errors) {
         Ok(stored) => stored,
         Err(fault) => return refuse_folder(&mut streams.output, &mut streams.errors, fault),
     };

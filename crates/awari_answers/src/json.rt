@@ -50,7 +50,7 @@ fn push_cut(text: &mut ArrayVec<u8, REQUEST_ROOM>, bytes: &[u8])
     ensures { text.new.items ≡ take 200 (text.old.items ++ bytes.now) }
 {
     let count = bytes.len().min(text.remaining_capacity());
-    // There is room for so many.
+    // There is room for this many.
     let _ = text.try_extend_from_slice(&bytes[..count]);
 }
 

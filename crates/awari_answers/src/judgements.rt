@@ -3,13 +3,12 @@
 ghost use Rattle.std.specs.Prelude.{◌≡◌, ◌+◌, ◌≤◌, ◌++◌, ◌↔◌, ℕ, ℤ, List, length, IfOk, IfErr, OnOk, Some};
 ghost use Rattle.awari_game.specs.Plays.{Standing, IsOutcome};
 ghost use Rattle.awari_game.specs.Shown.{IsShown, Shows};
-ghost use Rattle.awari_answers.specs.declared.judgements.JudgeFault.TheVariants as judge_fault;
 ghost use Rattle.awari_answers.specs.Judgement.{IsJudgement, IsJudgeFault, IsRefusedAt, bytes_of, pit_named, pits_named};
 
-use awari_board::{Board, BoardFault, MoveFault};
+use crate::asked::NoAnswer;
+use awari_board::{Board, MoveFault};
 use awari_game::Game;
 use std::fmt;
-use thiserror::Error;
 
 /// Where a play stands.
 #[derive(Clone, Copy, Debug, PartialEq, Eq)]
@@ -24,38 +23,6 @@ pub struct Judgement {
     pub outcome: Option<i16>,
 }
 
-/// Why a play could not be judged. It is printed as the fault inside it, and the number of the move.
-#[derive(Clone, Copy, Debug, PartialEq, Eq, Error)]
-pub enum JudgeFault {
-    /// The text is not a board.
-    Board { fault: BoardFault },
-    /// The move of this number, counted from 1 over all words, can't be played. The words may share
-    /// their bytes, so the number need not fit into a `usize`.
-    Move { fault: MoveFault, number: u128 },
-}
-
-impl fmt::Display for JudgeFault {
-    ghost use Rattle.std.specs.Prelude.{Some};
-    ghost use Rattle.awari_answers.specs.Judgement.{judge_fault_text};
-
-    ghost output = { λ fault. Some (judge_fault_text fault) };
-
-    fn fmt<W: fmt::Write>(&self, f: &mut fmt::Formatter<W>) -> fmt::Result {
-        match *self {
-            JudgeFault::Board { fault } => write!(f, "{fault}"),
-            JudgeFault::Move { fault, number } => write!(f, "{fault} at {number}"),
-        }
-    }
-}
-
-impl From<BoardFault> for JudgeFault {
-    ghost from_gives = { λ fault e. e ≡ judge_fault.Board fault };
-
-    fn from(fault: BoardFault) -> Self {
-        JudgeFault::Board { fault }
-    }
-}
-
 /// Plays the moves from the board that `text` spells, and says where the play then stands. It has an
 /// outcome if the play has ended, or once more than `limit` plies captured nothing. The moves are the
 /// bytes of all `words`, one word after the other: each is the digit of a pit, and any other byte is
@@ -63,7 +30,7 @@ impl From<BoardFault> for JudgeFault {
 ///
 /// A text that is not a board is refused as [`Board::parse`] refuses it. After that, the first move
 /// that can't be played is refused.
-pub fn judge(text: &[u8], limit: u32, words: &[&str]) -> Result<Judgement, JudgeFault>
+pub fn judge(text: &[u8], limit: u32, words: &[&str]) -> Result<Judgement, NoAnswer>
     ensures judged { IfOk result (IsJudgement text.now limit (bytes_of words.now)) }
     ensures fault { IfErr result (IsJudgeFault text.now (bytes_of words.now)) }
 {
@@ -74,7 +41,7 @@ pub fn judge(text: &[u8], limit: u32, words: &[&str]) -> Result<Judgement, Judge
         match play_word(&mut game, word.as_bytes()) {
             Ok(()) => played += word.len() as u128,
             Err(refused) => {
-                return Err(JudgeFault::Move {
+                return Err(NoAnswer::MoveAt {
                     fault: refused.fault,
                     number: played + refused.number as u128,
                 });

@@ -14,8 +14,8 @@ use std::thread::Threads;
 /// It is refused as `load` is, and takes the memory that it takes.
 pub fn load_levels<T: Threads + Sync, F: Folder>(
     rt: &T,
-    folder: &mut F,
     alloc: Global,
+    folder: &mut F,
     most: u8,
 ) -> Result<Shelf, FolderFault>
     ensures levels { IfOk result (AreLevelsTo (min most HIGHEST_LEVEL) (F.state folder.old).stands) }

@@ -11,7 +11,7 @@
 //!         board: &str,
 //!         output: &mut Vec<u8>,
 //!     ) -> u8 {
-//!         run_ask(rt, folder, rt.alloc(), board, output)
+//!         run_ask(rt, rt.alloc(), folder, board, output)
 //!     }
 #![tactic(auto)]
 
@@ -26,7 +26,6 @@ mod playing;
 mod plies;
 mod printing;
 mod remarks;
-mod shown;
 mod streams;
 mod telling;
 mod texts;
@@ -40,12 +39,12 @@ pub use asked::{NoAnswer, folder_name_of};
 pub use folders::{Summary, run_ask, run_ask_json, run_verify};
 pub use hints::tell_answer;
 pub use json::refuse_json;
-pub use judgements::{JudgeFault, Judgement, judge};
+pub use judgements::{Judgement, judge};
 pub use levels::load_levels;
 pub use lines::{run_line, run_line_json, run_longest_json, run_longest_line};
-pub use playing::{PlayFault, Played, play_on};
-pub use plies::{PliesQuery, run_plies};
-pub use printing::{Refused, print, print_bytes, refuse, status_of};
+pub use playing::{Played, play_on};
+pub use plies::run_plies;
+pub use printing::{Refused, print, print_bytes, print_members, refuse, status_of};
 pub use remarks::{Answers, Explained, Replies};
 pub use streams::Streams;
 pub use telling::{LevelLine, line_of_level};
@@ -55,5 +54,4 @@ pub use unverified::{
 };
 pub use unverified_lines::{run_line_unverified, run_plies_unverified};
 pub use watching::load_watched;
-pub use wishes::VerifyQuery;
-pub use worths::{MovesQuery, run_moves, run_moves_json};
+pub use worths::{run_moves, run_moves_json};

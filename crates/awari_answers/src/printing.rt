@@ -1,10 +1,14 @@
 //! Lines written to the output.
 
-ghost use Rattle.std.specs.Prelude.{◌≡◌, ◌≤◌, ◌++◌, ◌∷◌, [], ◌↔◌, true, IfSome};
+ghost use Rattle.std.specs.Prelude.{◌≡◌, ◌≤◌, ◌++◌, ◌∷◌, [], ◌↔◌, true, false, map, IfSome};
 ghost use Rattle.std.specs.Io.KnownBytes.{Appends};
+ghost use Rattle.awari_members.specs.Members.{line_text, said};
+ghost use Rattle.awari_queries.specs.Boards.{form_of};
 
 use crate::remarks::{Explained, Replies};
 use arrayvec::ArrayString;
+use awari_members::{Line, Member};
+use awari_queries::form_of;
 use std::fmt::{self, Display, Write as _};
 use std::io::Write;
 
@@ -32,6 +36,14 @@ fn print_in_pieces<W: Write, T: Display>(writer: &mut W, lines: &T) -> bool
         Ok(()) => writer.flush().is_ok(),
         Err(_) => false,
     }
+}
+
+/// Prints members as a line or as a JSON object, and says whether the writer took that. It takes no memory.
+pub fn print_members<W: Write>(members: &[Member<'_>], json: bool, writer: &mut W) -> bool
+    ensures { result ≡ true → Appends (W.contents writer.old) (W.contents writer.new) (line_text (form_of json false) (map said members.now) ++ 10 ∷ []) }
+{
+    let form = form_of(json, false);
+    print(writer, &Line { members, form })
 }
 
 /// Writes the bytes of lines, and flushes. True if the writer took them.

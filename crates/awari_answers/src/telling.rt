@@ -2,6 +2,8 @@
 
 ghost use Rattle.awari_answers.specs.LevelLines.{IsToldOf};
 
+use awari_members::{Line, Member};
+use awari_queries::Form;
 use awari_rank::size;
 use awari_table::{Counts, Level};
 use std::fmt;
@@ -19,6 +21,26 @@ pub struct LevelLine {
     pub limit: u32,
 }
 
+impl LevelLine {
+    ghost use Rattle.std.specs.Prelude.{◌≡◌, map};
+    ghost use Rattle.awari_answers.specs.LevelLines.{level_members};
+    ghost use Rattle.awari_members.specs.Members.{said};
+
+    /// Its numbers, with their names.
+    pub fn members(&self) -> [Member<'static>; 6]
+        ensures { map said result ≡ level_members self.now }
+    {
+        [
+            Member::number("level", u64::from(self.level)),
+            Member::number("boards", u64::from(self.boards)),
+            Member::number("won", u64::from(self.counts.won)),
+            Member::number("even", u64::from(self.counts.even)),
+            Member::number("lost", u64::from(self.counts.lost)),
+            Member::number("limit", u64::from(self.limit)),
+        ]
+    }
+}
+
 impl fmt::Display for LevelLine {
     ghost use Rattle.std.specs.Prelude.{Some};
     ghost use Rattle.awari_answers.specs.LevelLines.{told_text};
@@ -26,30 +48,12 @@ impl fmt::Display for LevelLine {
     ghost output = { λ told. Some (told_text told) };
 
     fn fmt<W: fmt::Write>(&self, f: &mut fmt::Formatter<W>) -> fmt::Result {
-        let LevelLine {
-            level,
-            boards,
-            counts,
-            limit,
-        } = *self;
-        let shares = Shares(counts);
-        write!(f, "level {level} boards {boards} {shares} limit {limit}")
-    }
-}
-
-/// How many boards are won, even and lost.
-#[derive(Clone, Copy)]
-struct Shares(Counts);
-
-impl fmt::Display for Shares {
-    ghost use Rattle.std.specs.Prelude.{Some};
-    ghost use Rattle.awari_answers.specs.LevelLines.{shares_text};
-
-    ghost output = { λ shares. Some (shares_text shares.0) };
-
-    fn fmt<W: fmt::Write>(&self, f: &mut fmt::Formatter<W>) -> fmt::Result {
-        let Counts { won, even, lost } = self.0;
-        write!(f, "won {won} even {even} lost {lost}")
+        let members = self.members();
+        let line = Line {
+            members: &members,
+            form: Form::Text,
+        };
+        write!(f, "{line}")
     }
 }
 

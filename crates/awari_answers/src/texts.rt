@@ -19,8 +19,8 @@ use std::thread::Threads;
 /// if the folder has no level of this number.
 pub fn run_text<T: Threads + Sync, F: Folder, W: Replies>(
     rt: &T,
-    folder: &mut F,
     alloc: Global,
+    folder: &mut F,
     level: Option<u8>,
     writer: &mut W,
 ) -> u8

@@ -15,11 +15,11 @@ use crate::asked::NoAnswer;
 use crate::json::refuse_json;
 use crate::printing::{print_bytes, refuse, status_of};
 use crate::remarks::Replies;
-use crate::worths::MovesQuery;
 use awari_board::{Board, one_board_fault_is_due};
 use awari_folder::Folder;
 use awari_places::{Opened, entry, open_levels, weigh};
 use awari_play::{LineFault, Weighed, entry_json, weighed_json};
+use awari_queries::MovesQuery;
 use awari_table::{Entry, HIGHEST_LEVEL, NotYet, line_of_entry};
 
 /// A board, and the levels in a folder up to the board's, by their headers.
@@ -64,7 +64,7 @@ pub(crate) fn open_level_of<F: Folder>(
     Ok(found)
 }
 
-/// The refusal of a board whose level is not one of so many.
+/// The refusal of a board whose level is not one of this many.
 fn not_there(levels: u8, line: bool) -> NoAnswer
     ensures { (fault : BoardFault) → result ≢ no_answer.Board fault }
 {

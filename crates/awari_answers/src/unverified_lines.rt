@@ -13,14 +13,15 @@ ghost use Rattle.awari_answers.specs.declared.asked.NoAnswer.TheVariants as no_a
 
 use crate::asked::NoAnswer;
 use crate::json::refuse_json;
-use crate::lines::{LineJson, LongestJson, LongestLine, ValuedLine};
-use crate::plies::{PliesQuery, print_line};
+use crate::lines::{LongestLine, ValuedLine, print_line_json, print_longest_json};
+use crate::plies::print_line;
 use crate::printing::{print, refuse, status_of};
 use crate::remarks::Replies;
 use crate::unverified::{OpenedFor, open_level_of};
 use awari_folder::Folder;
 use awari_places::{best_line, entry, line_plies, longest_line};
 use awari_play::LinePlies;
+use awari_queries::LineQuery;
 use std::alloc::Global;
 use std::io::Write;
 
@@ -28,9 +29,9 @@ use std::io::Write;
 /// beside it do: by the plans of both sides, or with one that holds out; as lines or as JSON. Or it prints
 /// the refusal. It takes memory for the moves and for names.
 pub fn run_line_unverified<F: Folder, W: Replies>(
-    folder: &mut F,
     alloc: Global,
-    query: PliesQuery<'_>,
+    folder: &mut F,
+    query: LineQuery<'_>,
     writer: &mut W,
 ) -> u8
     ensures status { result ≤ 1 }
@@ -38,9 +39,9 @@ pub fn run_line_unverified<F: Folder, W: Replies>(
     ensures found { result ≡ 0 → PrintsLineSaid query.entry.longest query.entry.json (F.state folder.old).stands query.entry.board.now (W.contents writer.old) (W.contents writer.new) }
 {
     if query.longest {
-        return run_longest(folder, alloc, query, writer);
+        return run_longest(alloc, folder, query, writer);
     }
-    match line_of(folder, alloc, query.board.as_bytes()) {
+    match line_of(alloc, folder, query.board.as_bytes()) {
         Ok(found) => status_of(print_best(&found, query, writer)),
         Err(fault) => refuse_line(writer, query, fault),
     }
@@ -48,23 +49,23 @@ pub fn run_line_unverified<F: Folder, W: Replies>(
 
 /// The same, with one side that holds out.
 fn run_longest<F: Folder, W: Replies>(
-    folder: &mut F,
     alloc: Global,
-    query: PliesQuery<'_>,
+    folder: &mut F,
+    query: LineQuery<'_>,
     writer: &mut W,
 ) -> u8
     ensures status { result ≤ 1 }
     ensures same { Same (F.state folder.old).stands (F.state folder.new).stands }
     ensures found { result ≡ 0 → PrintsLineSaid true query.entry.json (F.state folder.old).stands query.entry.board.now (W.contents writer.old) (W.contents writer.new) }
 {
-    match longest_line_of(folder, alloc, query.board.as_bytes()) {
+    match longest_line_of(alloc, folder, query.board.as_bytes()) {
         Ok(found) => status_of(print_longest(&found, query, writer)),
         Err(fault) => refuse_line(writer, query, fault),
     }
 }
 
 /// Writes a refusal, as JSON if the answer is to be JSON, and gives the status 1.
-fn refuse_line<W: Replies>(writer: &mut W, query: PliesQuery<'_>, fault: NoAnswer) -> u8
+fn refuse_line<W: Replies>(writer: &mut W, query: LineQuery<'_>, fault: NoAnswer) -> u8
     ensures { result ≡ 1 }
 {
     if query.json {
@@ -74,39 +75,27 @@ fn refuse_line<W: Replies>(writer: &mut W, query: PliesQuery<'_>, fault: NoAnswe
 }
 
 /// Prints a line by the plans of both sides, and says whether the writer took it.
-fn print_best<W: Write>(found: &ValuedLine, query: PliesQuery<'_>, writer: &mut W) -> bool
+fn print_best<W: Write>(found: &ValuedLine, query: LineQuery<'_>, writer: &mut W) -> bool
     ensures { result ≡ true → Appends (W.contents writer.old) (W.contents writer.new) (shown_best query.entry.json query.entry.board.now found.now.entry.value found.now.line.moves.items found.now.line.outcome ++ 10 ∷ []) }
 {
     if !query.json {
         return print(writer, found);
     }
-    let line = LineJson {
-        board: query.board,
-        value: found.entry.value,
-        moves: found.line.moves.as_slice(),
-        outcome: found.line.outcome,
-    };
-    print(writer, &line)
+    print_line_json(query.board, found, writer)
 }
 
 /// Prints a line in which one side holds out, and says whether the writer took it.
-fn print_longest<W: Write>(found: &LongestLine, query: PliesQuery<'_>, writer: &mut W) -> bool
+fn print_longest<W: Write>(found: &LongestLine, query: LineQuery<'_>, writer: &mut W) -> bool
     ensures { result ≡ true → Appends (W.contents writer.old) (W.contents writer.new) (shown_longest query.entry.json query.entry.board.now found.now.entry.value found.now.entry.dist found.now.moves.items ++ 10 ∷ []) }
 {
     if !query.json {
         return print(writer, found);
     }
-    let line = LongestJson {
-        board: query.board,
-        value: found.entry.value,
-        distance: found.entry.dist,
-        moves: found.moves.as_slice(),
-    };
-    print(writer, &line)
+    print_longest_json(query.board, found, writer)
 }
 
 /// The line of play from the board that `text` spells, by the plans that the files say.
-fn line_of<F: Folder>(folder: &mut F, alloc: Global, text: &[u8]) -> Result<ValuedLine, NoAnswer>
+fn line_of<F: Folder>(alloc: Global, folder: &mut F, text: &[u8]) -> Result<ValuedLine, NoAnswer>
     ensures same { Same (F.state folder.old).stands (F.state folder.new).stands }
     ensures line { IfOk result (λ found. (board : List ℕ) × IsSaid (F.state folder.old).stands text.now board (SayLine board found.entry.value found.line.moves.items found.line.outcome)) }
     ensures board { (fault : BoardFault) → (result ≡ Err (no_answer.Board fault)) ↔ IsFaulty text.now fault }
@@ -119,8 +108,8 @@ fn line_of<F: Folder>(folder: &mut F, alloc: Global, text: &[u8]) -> Result<Valu
 
 /// The line of play from the board that `text` spells in which one side holds out, by what the files say.
 fn longest_line_of<F: Folder>(
-    folder: &mut F,
     alloc: Global,
+    folder: &mut F,
     text: &[u8],
 ) -> Result<LongestLine, NoAnswer>
     ensures same { Same (F.state folder.old).stands (F.state folder.new).stands }
@@ -135,8 +124,8 @@ fn longest_line_of<F: Folder>(
 
 /// The plies of such a line.
 fn plies_of<F: Folder>(
-    folder: &mut F,
     alloc: Global,
+    folder: &mut F,
     text: &[u8],
     longest: bool,
 ) -> Result<LinePlies, NoAnswer>
@@ -153,16 +142,16 @@ fn plies_of<F: Folder>(
 /// Prints a line or a JSON object for each ply of such a line of play, as `run_plies` does, or the
 /// refusal. It takes memory for the plies and for names.
 pub fn run_plies_unverified<F: Folder, W: Replies>(
-    folder: &mut F,
     alloc: Global,
-    query: PliesQuery<'_>,
+    folder: &mut F,
+    query: LineQuery<'_>,
     writer: &mut W,
 ) -> u8
     ensures status { result ≤ 1 }
     ensures same { Same (F.state folder.old).stands (F.state folder.new).stands }
     ensures found { result ≡ 0 → PrintsPliesSaid (F.state folder.old).stands query.entry.longest query.entry.json query.entry.board.now (W.contents writer.old) (W.contents writer.new) }
 {
-    match plies_of(folder, alloc, query.board.as_bytes(), query.longest) {
+    match plies_of(alloc, folder, query.board.as_bytes(), query.longest) {
         Ok(found) => status_of(print_line(&found, query.json, writer)),
         Err(fault) => refuse_line(writer, query, fault),
     }

@@ -17,8 +17,8 @@ use std::thread::Threads;
 /// right. It is refused as [`load`] is, and takes the memory that it takes.
 pub fn load_watched<T: Threads + Sync, F: Folder, E: Write>(
     rt: &T,
-    folder: &mut F,
     alloc: Global,
+    folder: &mut F,
     tells: bool,
     errors: &mut E,
 ) -> Result<Stored, FolderFault>

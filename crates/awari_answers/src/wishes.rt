@@ -13,17 +13,6 @@ use awari_table::{HIGHEST_LEVEL, Shelf};
 use std::fmt;
 use std::io::Write;
 
-/// How a folder is verified.
-#[derive(Clone, Copy)]
-pub struct VerifyQuery<'a> {
-    /// The folder is to have just the levels 0 to this one.
-    pub levels: Option<u8>,
-    /// The last level's file is to have this digest, in hexadecimal digits of either case.
-    pub digest: Option<&'a str>,
-    /// Whether the error stream is told of each level once it is found right.
-    pub progress: bool,
-}
-
 /// Whether a folder with the levels of this shelf has just those that are wished, and no file above
 /// them. If not, `errors` is told what was found. Files above are opened, and not read. The refusals are
 /// 82 Open, with the level, and 84 Memory.

@@ -14,31 +14,23 @@ use crate::remarks::Replies;
 use awari_board::Board;
 use awari_folder::Folder;
 use awari_play::{Weighed, weigh, weighed_json};
+use awari_queries::MovesQuery;
 use std::alloc::Global;
 use std::thread::Threads;
-
-/// What is asked of a board's moves, in words.
-#[derive(Clone, Copy)]
-pub struct MovesQuery<'a> {
-    /// The text of the board.
-    pub board: &'a str,
-    /// Whether the replies to each move are asked for.
-    pub replies: bool,
-}
 
 /// The board that `text` spells, and what it and each of its legal moves are worth, by the levels in the
 /// folder.
 fn weigh_in<T: Threads + Sync, F: Folder>(
     rt: &T,
-    folder: &mut F,
     alloc: Global,
+    folder: &mut F,
     query: MovesQuery<'_>,
 ) -> Result<(Board, Weighed), NoAnswer>
     ensures weighed { IfOk result (λ found. IsWeighedIn query.entry.replies (F.state folder.old).stands query.entry.board.now found.0 found.1) }
     ensures same { Same (F.state folder.old).stands (F.state folder.new).stands }
     ensures board { (fault : BoardFault) → (result ≡ Err (no_answer.Board fault)) ↔ IsFaulty query.entry.board.now fault }
 {
-    let asked = ask_folder(rt, folder, alloc, query.board.as_bytes())?;
+    let asked = ask_folder(rt, alloc, folder, query.board.as_bytes())?;
     let weighed = weigh(&asked.shelf, &asked.board, query.replies)?;
     Ok((asked.board, weighed))
 }
@@ -47,8 +39,8 @@ fn weigh_in<T: Threads + Sync, F: Folder>(
 /// or that the play has ended there, or the refusal.
 pub fn run_moves<T: Threads + Sync, F: Folder, W: Replies>(
     rt: &T,
-    folder: &mut F,
     alloc: Global,
+    folder: &mut F,
     query: MovesQuery<'_>,
     writer: &mut W,
 ) -> u8
@@ -56,7 +48,7 @@ pub fn run_moves<T: Threads + Sync, F: Folder, W: Replies>(
     ensures same { Same (F.state folder.old).stands (F.state folder.new).stands }
     ensures found { result ≡ 0 → PrintsWorths query.entry.replies (F.state folder.old).stands query.entry.board.now (W.contents writer.old) (W.contents writer.new) }
 {
-    match weigh_in(rt, folder, alloc, query) {
+    match weigh_in(rt, alloc, folder, query) {
         Ok((_, weighed)) => status_of(print_bytes(writer, weighed.text().as_slice())),
         Err(fault) => refuse(writer, fault),
     }
@@ -65,8 +57,8 @@ pub fn run_moves<T: Threads + Sync, F: Folder, W: Replies>(
 /// Prints the same, or the refusal, as JSON in one line.
 pub fn run_moves_json<T: Threads + Sync, F: Folder, W: Replies>(
     rt: &T,
-    folder: &mut F,
     alloc: Global,
+    folder: &mut F,
     query: MovesQuery<'_>,
     writer: &mut W,
 ) -> u8
@@ -74,7 +66,7 @@ pub fn run_moves_json<T: Threads + Sync, F: Folder, W: Replies>(
     ensures same { Same (F.state folder.old).stands (F.state folder.new).stands }
     ensures found { result ≡ 0 → PrintsWorthsJson query.entry.replies (F.state folder.old).stands query.entry.board.now (W.contents writer.old) (W.contents writer.new) }
 {
-    match weigh_in(rt, folder, alloc, query) {
+    match weigh_in(rt, alloc, folder, query) {
         Ok((board, weighed)) => {
             let line = weighed_json(&board, &weighed);
             status_of(print_bytes(writer, line.as_slice()))

@@ -1,5 +1,5 @@
 -- What the program has printed for a request where it ends with status 0, and what it leaves of the host's folders.
-use Rattle.std.specs.Prelude.{◌≡◌, ◌≢◌, ℕ, List, [], Option, Some, None, true, false}
+use Rattle.std.specs.Prelude.{◌≡◌, ◌≢◌, ℕ, Bool, List, [], Option, Some, None, true, false}
 use Rattle.std.specs.Borrow.{Bor}
 use Rattle.std.specs.Io.KnownBytes.{Keeps}
 use Rattle.awari_check.specs.Answer.{PrintsYes}
@@ -21,6 +21,7 @@ use Rattle.awari_answers.specs.UnverifiedLines.{PrintsLineSaid, PrintsPliesSaid}
 use Rattle.awari_answers.specs.Worths.{PrintsWorths, PrintsWorthsJson}
 use Rattle.awari_questions.specs.Boards.{PrintsAllBoards, PrintsBoardsBy}
 use Rattle.awari_pairs.specs.Pairs.{PrintsPairsBy}
+use Rattle.awari_queries.specs.declared.questions.CountsQuery.{CountsQuery}
 use Rattle.awari_questions.specs.Counts.{PrintsCountsBy}
 use Rattle.awari_questions.specs.Places.{PrintsBoard, PrintsPlace}
 use Rattle.awari_questions.specs.Plays.{PrintsPlays}
@@ -30,28 +31,51 @@ use Rattle.awari_words.specs.declared.requests.Question.TheVariants.{Verify, Tex
 use Rattle.awari_words.specs.declared.requests.Request.{Request}
 use Rattle.awari_words.specs.declared.requests.Request.TheVariants.{Check, Move, Judge, Build, Migrate, Rank, Board, Plays, Read}
 
+-- the text of levels, with their boards or without
+abbrev pub PrintsTextOf : Bool → Stands → Option ℕ → Option (List ℕ) → Option (List ℕ) → Type 0
+PrintsTextOf false = PrintsText
+PrintsTextOf true = PrintsAllBoards
+
+-- a board's entry: by right levels or by what the files say, as JSON or as a line
+abbrev pub PrintsEntryBy : Bool → Bool → Stands → List ℕ → Option (List ℕ) → Option (List ℕ) → Type 0
+PrintsEntryBy false false = PrintsEntry
+PrintsEntryBy false true = PrintsEntryJson
+PrintsEntryBy true json = PrintsEntrySaidBy json
+
+-- what a board's moves are worth, likewise
+abbrev pub PrintsWorthsBy : Bool → Bool → Bool → Stands → List ℕ → Option (List ℕ) → Option (List ℕ) → Type 0
+PrintsWorthsBy false false = PrintsWorths
+PrintsWorthsBy false true = PrintsWorthsJson
+PrintsWorthsBy true json = PrintsWorthsSaidBy json
+
+-- a line of play, in one line or ply by ply: by right levels or by what the files say
+abbrev pub PrintsLineAsked : Bool → Bool → Bool → Bool → Stands → List ℕ → Option (List ℕ) → Option (List ℕ) → Type 0
+PrintsLineAsked false false longest json stands = PrintsLineBy longest json stands
+PrintsLineAsked false true longest json stands = PrintsLineSaid longest json stands
+PrintsLineAsked true false longest json stands = PrintsPlies stands longest json
+PrintsLineAsked true true longest json stands = PrintsPliesSaid stands longest json
+
+-- the answers to the lines that the reader had left, by right levels or by what the files say
+abbrev pub PrintsServiceBy : Bool → Stands → Option (List ℕ) → Option (List ℕ) → Option (List ℕ) → Type 0
+PrintsServiceBy false = PrintsService
+PrintsServiceBy true = PrintsServiceSaid
+
+-- levels in numbers, or a level by two columns
+abbrev pub PrintsNumbers : Option (Bor (List ℕ)) → CountsQuery → Stands → Option (List ℕ) → Option (List ℕ) → Type 0
+PrintsNumbers None q stands = PrintsCountsBy q.unverified q.json stands q.level
+PrintsNumbers (Some by) q stands = PrintsPairsBy q.unverified stands q
+
 -- the lines of the levels that lie in a folder, their text, the board's entry, its legal moves, a line of play from it, the answers
 -- to the lines that the reader had left, the counts of levels, or boards of a level; unverified: what the files say of the board
 abbrev pub PrintsAnswer : Question → Stands → Option (List ℕ) → Option (List ℕ) → Option (List ℕ) → Type 0
-PrintsAnswer (Verify levels digest progress) stands input before after = PrintsFolder levels digest stands before after
-PrintsAnswer (Text level false) stands input before after = PrintsText stands level before after
-PrintsAnswer (Text level true) stands input before after = PrintsAllBoards stands level before after
-PrintsAnswer (Ask board false false) stands input before after = PrintsEntry stands board.now before after
-PrintsAnswer (Ask board true false) stands input before after = PrintsEntryJson stands board.now before after
-PrintsAnswer (Ask board json true) stands input before after = PrintsEntrySaidBy json stands board.now before after
-PrintsAnswer (Moves board replies false false) stands input before after = PrintsWorths replies stands board.now before after
-PrintsAnswer (Moves board replies true false) stands input before after = PrintsWorthsJson replies stands board.now before after
-PrintsAnswer (Moves board replies json true) stands input before after = PrintsWorthsSaidBy json replies stands board.now before after
-PrintsAnswer (Line board longest false json false) stands input before after = PrintsLineBy longest json stands board.now before after
-PrintsAnswer (Line board longest false json true) stands input before after = PrintsLineSaid longest json stands board.now before after
-PrintsAnswer (Line board longest true json false) stands input before after = PrintsPlies stands longest json board.now before after
-PrintsAnswer (Line board longest true json true) stands input before after = PrintsPliesSaid stands longest json board.now before after
-PrintsAnswer (Serve top owners false) stands input before after = PrintsService stands input before after
-PrintsAnswer (Serve top owners true) stands input before after = PrintsServiceSaid stands input before after
-PrintsAnswer (Counts level None json csv unverified) stands input before after = PrintsCountsBy unverified json stands level before after
-PrintsAnswer (Counts level (Some by) json csv unverified) stands input before after =
-    PrintsPairsBy unverified stands (record { level = level; by = by; json = json; csv = csv; unverified = unverified }) before after
-PrintsAnswer (Boards query) stands input before after = PrintsBoardsBy query.unverified stands query before after
+PrintsAnswer (Verify q) stands input = PrintsFolder q.levels q.digest stands
+PrintsAnswer (Text q) stands input = PrintsTextOf q.boards stands q.level
+PrintsAnswer (Ask q) stands input = PrintsEntryBy q.unverified q.json stands q.board.now
+PrintsAnswer (Moves q) stands input = PrintsWorthsBy q.unverified q.json q.replies stands q.board.now
+PrintsAnswer (Line q) stands input = PrintsLineAsked q.plies q.unverified q.longest q.json stands q.board.now
+PrintsAnswer (Serve q) stands input = PrintsServiceBy q.unverified stands input
+PrintsAnswer (Counts q) stands input = PrintsNumbers q.by q stands
+PrintsAnswer (Boards q) stands input = PrintsBoardsBy q.unverified stands q
 
 -- The lines of the levels that were built in the folder of this name, which holds them now if the host keeps it.
 abbrev pub PrintsBuilt : (List ℕ → Type 0) → ℕ → List ℕ → (List ℕ → Stands) → (List ℕ → Stands) → Option (List ℕ) → Option (List ℕ) → Type 0
@@ -62,21 +86,29 @@ abbrev pub PrintsBuild : (List ℕ → Type 0) → ℕ → Option (Bor (List ℕ
 PrintsBuild keeps top None old new before after = PrintsAllLevels top before after
 PrintsBuild keeps top (Some folder) old new before after = PrintsBuilt keeps top folder.now old new before after
 
+-- Those, or nothing for an estimate.
+abbrev pub PrintsBuildOr : Bool → (List ℕ → Type 0) → ℕ → Option (Bor (List ℕ)) → (List ℕ → Stands) → (List ℕ → Stands) → Option (List ℕ) → Option (List ℕ) → Type 0
+PrintsBuildOr false keeps top folder old new = PrintsBuild keeps top folder old new
+PrintsBuildOr true keeps top folder old new = Keeps
+
 -- The lines of the levels that were brought over from one folder into the other. If both have one name, nothing is known of the
 -- other.
 abbrev pub PrintsBrought : (List ℕ → Type 0) → List ℕ → List ℕ → (List ℕ → Stands) → (List ℕ → Stands) → Option (List ℕ) → Option (List ℕ) → Type 0
 PrintsBrought keeps from to old new before after = (others stands : Stands) × (from ≢ to → old to ≡ others) × (from ≢ to → keeps to → new to ≡ stands)
     × PrintsMigrated (old from) others stands before after
 
+-- the bytes of all words of a play, if there are any
+abbrev pub moves_of : Option (Bor (List (Bor (List ℕ)))) → List ℕ
+moves_of None = []
+moves_of (Some words) = bytes_of words.now
+
 -- the yes for what the reader had left, the move, the judgement of the play, the lines of levels that were built, in a folder or
 -- not, nothing for an estimate, the lines of levels that were brought over, the board's place, the board of a place, the counts of plays, or the answer to a question
 abbrev pub PrintsFor : (List ℕ → Type 0) → Request → (List ℕ → Stands) → (List ℕ → Stands) → Option (List ℕ) → Option (List ℕ) → Option (List ℕ) → Type 0
 PrintsFor keeps Check old new input before after = PrintsYes input before after
 PrintsFor keeps (Move board pit) old new input before after = PrintsMove board.now pit before after
-PrintsFor keeps (Judge board limit None) old new input before after = PrintsJudgement board.now limit [] before after
-PrintsFor keeps (Judge board limit (Some moves)) old new input before after = PrintsJudgement board.now limit (bytes_of moves.now) before after
-PrintsFor keeps (Build top folder threads pace progress false) old new input before after = PrintsBuild keeps top folder old new before after
-PrintsFor keeps (Build top folder threads pace progress true) old new input before after = Keeps before after
+PrintsFor keeps (Judge board limit moves) old new input before after = PrintsJudgement board.now limit (moves_of moves) before after
+PrintsFor keeps (Build q) old new input before after = PrintsBuildOr q.estimate keeps q.top q.folder old new before after
 PrintsFor keeps (Migrate from to) old new input before after = PrintsBrought keeps from.now to.now old new before after
 PrintsFor keeps (Rank board) old new input before after = PrintsPlace board.now before after
 PrintsFor keeps (Board level rank) old new input before after = PrintsBoard level rank before after
@@ -88,9 +120,14 @@ abbrev pub IsFolder : Option (Bor (List ℕ)) → List ℕ → Type 0
 IsFolder None name = ⊥
 IsFolder (Some folder) name = name ≡ folder.now
 
+-- the same, unless nothing is built
+abbrev pub BuildsIn : Bool → Option (Bor (List ℕ)) → List ℕ → Type 0
+BuildsIn false folder name = IsFolder folder name
+BuildsIn true folder name = ⊥
+
 -- the request writes into the folder of this name; an estimate writes into none
 abbrev pub WritesInto : Request → List ℕ → Type 0
-WritesInto (Build top folder threads pace progress false) name = IsFolder folder name
+WritesInto (Build q) name = BuildsIn q.estimate q.folder name
 WritesInto (Migrate from to) name = name ≡ to.now
 WritesInto request name = ⊥
 

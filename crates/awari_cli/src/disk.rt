@@ -122,7 +122,7 @@ impl<'a, T: Files<File = File>> Host<'a> for Disk<'a, T> {
     fn close(&mut self, _name: &'a str, _folder: HostFolder<'a, T>) {}
 }
 
-/// Tells the error stream what the system said. That there is no such folder was told before.
+/// Tells the error stream what the system said, unless it is that there is no such folder, which was told before.
 fn tell_said<E: Write>(name: &str, said: Said, errors: &mut E) {
     let Said { named, error } = said;
     // There is nowhere to say that this could not be written.
@@ -245,7 +245,7 @@ impl fmt::Display for Gap {
     }
 }
 
-/// Levels without a gap, printed behind so many others.
+/// Levels without a gap, printed behind this many others.
 #[derive(Clone, Copy)]
 struct Run {
     told: usize,

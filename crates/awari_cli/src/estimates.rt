@@ -119,7 +119,7 @@ impl fmt::Display for Estimate {
     }
 }
 
-/// So many bytes, printed with a unit.
+/// This many bytes, printed with a unit.
 #[derive(Clone, Copy)]
 pub(crate) struct Bytes(pub(crate) u64);
 

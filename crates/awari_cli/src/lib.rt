@@ -42,11 +42,12 @@ mod ways;
 mod writing;
 
 pub use awari_answers::{
-    Answers, JudgeFault, Judgement, MovesQuery, PlayFault, Played, PliesQuery, Replies, Streams,
-    VerifyQuery, judge, play_on, run_ask, run_ask_json, run_line, run_line_json, run_longest_json,
-    run_longest_line, run_moves, run_moves_json, run_plies, run_text, run_verify,
+    Answers, Judgement, NoAnswer, Played, Replies, Streams, judge, play_on, run_ask, run_ask_json,
+    run_line, run_line_json, run_longest_json, run_longest_line, run_moves, run_moves_json,
+    run_plies, run_text, run_verify,
 };
 pub use awari_check::check;
+pub use awari_queries::{LineQuery, MovesQuery, ServeQuery, VerifyQuery};
 pub use beside::BuildProgress;
 pub use building::{Builder, run_build_in};
 pub use disk::Disk;
@@ -56,4 +57,4 @@ pub use laws::one_file_for_every_schedule;
 pub use migrating::run_migrate;
 pub use progress::{HowTold, ProgressLines};
 pub use runs::run;
-pub use serving::{Growth, run_serve};
+pub use serving::run_serve;

@@ -99,7 +99,7 @@ impl<'a, C: Clock, E: Write> ProgressLines<'a, C, E> {
         print(self.errors, &format_args!("{place}{CUT}{line}{WRAP}"));
     }
 
-    /// A level of so many stones begins, which has so many boards.
+    /// A level with this many stones begins, which has that many boards.
     fn begin(&mut self, level: usize, boards: usize) {
         if self.all.is_none() {
             let first = u8::try_from(level).unwrap_or(u8::MAX);
@@ -117,7 +117,7 @@ impl<'a, C: Clock, E: Write> ProgressLines<'a, C, E> {
         self.tell(&format_args!("level {level} of {top} scan of {boards}; {pace}"));
     }
 
-    /// This gain is open, and so many boards are settled.
+    /// This gain is open, and this many boards are settled.
     fn settled(&mut self, gain: usize, boards: usize) {
         let now = Instant::now(self.clock).ok();
         if self.gain == Some(gain) && !self.is_due(now) {
@@ -148,7 +148,7 @@ impl<'a, C: Clock, E: Write> ProgressLines<'a, C, E> {
         between(self.told, now).as_millis() >= MILLISECONDS_BETWEEN
     }
 
-    /// How far the build is with so many boards done.
+    /// How far the build is with this many boards done.
     fn pace(&self, now: Option<Instant>, done: u64) -> Pace {
         Pace {
             done,
@@ -157,7 +157,7 @@ impl<'a, C: Clock, E: Write> ProgressLines<'a, C, E> {
         }
     }
 
-    /// The boards that are done, if so many eighths of this level are, and so many of its boards are settled.
+    /// The boards that are done, if this many eighths of this level are, and this many of its boards are settled.
     fn done(&self, eighths: u64, settled: u64) -> u64 {
         let begun = self.boards.saturating_mul(eighths) / EIGHTHS;
         let gains = settled.saturating_mul(EIGHTHS_OF_GAINS) / EIGHTHS;
@@ -234,7 +234,7 @@ impl fmt::Display for Seconds {
     }
 }
 
-/// So many seconds, printed with a unit.
+/// This many seconds, printed with a unit.
 #[derive(Clone, Copy)]
 struct Span(u64);
 

@@ -2,23 +2,22 @@
 
 ghost use Rattle.std.specs.Prelude.{◌≡◌, ◌≤◌};
 ghost use Rattle.awari_answers.specs.Lines.{PrintsLineBy};
-ghost use Rattle.awari_answers.specs.Unverified.{PrintsEntrySaidBy, PrintsWorthsSaidBy};
-ghost use Rattle.awari_cli.specs.Done.{PrintsAnswer};
+ghost use Rattle.awari_cli.specs.Done.{PrintsAnswer, PrintsEntryBy, PrintsLineAsked, PrintsNumbers, PrintsWorthsBy};
 ghost use Rattle.awari_cli.specs.Hosts.{AllStay};
 ghost use Rattle.awari_folder.specs.Contents.{Same};
 
 use crate::hosts::{Host, Purpose};
-use crate::serving::{Growth, run_serve};
+use crate::serving::run_serve;
 use awari_answers::{
-    MovesQuery, PliesQuery, Replies, Streams, VerifyQuery, print, refuse, run_ask, run_ask_json,
-    run_ask_json_unverified, run_ask_unverified, run_line, run_line_json, run_line_unverified,
-    run_longest_json, run_longest_line, run_moves, run_moves_json, run_moves_json_unverified,
-    run_moves_unverified, run_plies, run_plies_unverified, run_text, run_verify,
+    NoAnswer, Replies, Streams, print, refuse, run_ask, run_ask_json, run_ask_json_unverified,
+    run_ask_unverified, run_line, run_line_json, run_line_unverified, run_longest_json,
+    run_longest_line, run_moves, run_moves_json, run_moves_json_unverified, run_moves_unverified,
+    run_plies, run_plies_unverified, run_text, run_verify,
 };
 use awari_folder::Folder;
-use awari_pairs::{PairsQuery, run_pairs};
-use awari_queries::{BoardsQuery, NoColumn};
-use awari_questions::{CountsQuery, run_all_boards, run_boards, run_counts};
+use awari_pairs::run_pairs;
+use awari_queries::{AskQuery, CountsQuery, LineQuery, MovesQuery};
+use awari_questions::{run_all_boards, run_boards, run_counts};
 use awari_unverified::run_serve_unverified;
 use awari_words::Question;
 use std::alloc::Global;
@@ -41,7 +40,7 @@ pub(crate) fn run_reading<
     R: Read,
     W: Replies,
     E: Write,
->(rt: &T, host: &mut H, alloc: Global, reading: Reading<'a>, streams: &mut Streams<R, W, E>) -> u8
+>(rt: &T, alloc: Global, host: &mut H, reading: Reading<'a>, streams: &mut Streams<R, W, E>) -> u8
     ensures status { result ≤ 1 }
     ensures same { AllStay H.keeps (H.holds host.old) (H.holds host.new) }
     ensures answered { result ≡ 0 → PrintsAnswer reading.entry.question (H.holds host.old reading.entry.folder.now) (R.remaining streams.old.input)
@@ -55,7 +54,7 @@ pub(crate) fn run_reading<
             &format_args!("{}: nothing is verified", reading.folder),
         );
     }
-    let status = run_question(rt, &mut folder, alloc, reading.question, streams);
+    let status = run_question(rt, alloc, &mut folder, reading.question, streams);
     host.tell(reading.folder, &folder, &mut streams.errors);
     host.close(reading.folder, folder);
     status
@@ -70,8 +69,8 @@ fn run_question<
     E: Write,
 >(
     rt: &T,
-    folder: &mut F,
     alloc: Global,
+    folder: &mut F,
     question: Question<'_>,
     streams: &mut Streams<R, W, E>,
 ) -> u8
@@ -82,174 +81,121 @@ fn run_question<
 {
     let output = &mut streams.output;
     match question {
-        Question::Verify {
-            levels,
-            digest,
-            progress,
-        } => {
-            let query = VerifyQuery {
-                levels,
-                digest,
-                progress,
-            };
-            run_verify(rt, folder, alloc, query, streams)
+        Question::Verify(query) => run_verify(rt, alloc, folder, query, streams),
+        Question::Text(query) if query.boards => {
+            run_all_boards(rt, alloc, folder, query.level, output)
         }
-        Question::Text {
-            level,
-            boards: false,
-        } => run_text(rt, folder, alloc, level, output),
-        Question::Text {
-            level,
-            boards: true,
-        } => run_all_boards(rt, folder, alloc, level, output),
-        Question::Ask {
-            board,
-            json,
-            unverified: true,
-        } => run_ask_said(folder, board, json, output),
-        Question::Ask {
-            board,
-            json: false,
-            ..
-        } => run_ask(rt, folder, alloc, board, output),
-        Question::Ask {
-            board,
-            json: true,
-            ..
-        } => run_ask_json(rt, folder, alloc, board, output),
-        Question::Moves {
-            board,
-            replies,
-            json,
-            unverified: true,
-        } => run_moves_said(folder, MovesQuery { board, replies }, json, output),
-        Question::Moves {
-            board,
-            replies,
-            json: false,
-            ..
-        } => run_moves(rt, folder, alloc, MovesQuery { board, replies }, output),
-        Question::Moves {
-            board,
-            replies,
-            json: true,
-            ..
-        } => run_moves_json(rt, folder, alloc, MovesQuery { board, replies }, output),
-        Question::Line {
-            board,
-            longest,
-            plies,
-            json,
-            unverified,
-        } => {
-            let query = PliesQuery {
-                board,
-                longest,
-                json,
-            };
-            match (plies, unverified) {
-                (false, false) => run_line_of(rt, folder, alloc, query, output),
-                (false, true) => run_line_unverified(folder, alloc, query, output),
-                (true, false) => run_plies(rt, folder, alloc, query, output),
-                (true, true) => run_plies_unverified(folder, alloc, query, output),
-            }
-        }
-        Question::Serve {
-            unverified: true,
-            ..
-        } => run_serve_unverified(folder, streams),
-        Question::Serve { top, owners, .. } => {
-            run_serve(rt, folder, alloc, Growth { top, owners }, streams)
-        }
-        Question::Counts {
-            level,
-            by: Some(by),
-            json,
-            csv,
-            unverified,
-        } => {
-            let query = PairsQuery {
-                level,
-                by,
-                json,
-                csv,
-                unverified,
-            };
-            run_pairs(rt, folder, alloc, &query, output)
-        }
-        Question::Counts { csv: true, .. } => refuse(output, NoColumn),
-        Question::Counts {
-            level,
-            json,
-            unverified,
-            ..
-        } => {
-            let query = CountsQuery {
-                level,
-                json,
-                unverified,
-            };
-            run_counts(rt, folder, alloc, query, output)
-        }
-        Question::Boards(query) => run_boards(rt, folder, alloc, &query, output),
+        Question::Text(query) => run_text(rt, alloc, folder, query.level, output),
+        Question::Ask(query) => run_ask_asked(rt, alloc, folder, query, output),
+        Question::Moves(query) => run_moves_asked(rt, alloc, folder, query, output),
+        Question::Line(query) => run_line_asked(rt, alloc, folder, query, output),
+        Question::Serve(query) if query.unverified => run_serve_unverified(folder, streams),
+        Question::Serve(query) => run_serve(rt, alloc, folder, query, streams),
+        Question::Counts(query) => run_numbers(rt, alloc, folder, query, output),
+        Question::Boards(query) => run_boards(rt, alloc, folder, &query, output),
     }
 }
 
-/// Prints the entry that the files say of a board.
-fn run_ask_said<F: Folder, W: Replies>(
+/// Prints the entry of a board.
+fn run_ask_asked<T: Threads + Sync, F: Folder, W: Replies>(
+    rt: &T,
+    alloc: Global,
     folder: &mut F,
-    board: &str,
-    json: bool,
+    query: AskQuery<'_>,
     writer: &mut W,
 ) -> u8
     ensures status { result ≤ 1 }
     ensures same { Same (F.state folder.old).stands (F.state folder.new).stands }
-    ensures printed { result ≡ 0 → PrintsEntrySaidBy json (F.state folder.old).stands board.now (W.contents writer.old) (W.contents writer.new) }
+    ensures printed { result ≡ 0 → PrintsEntryBy query.entry.unverified query.entry.json (F.state folder.old).stands query.entry.board.now (W.contents writer.old) (W.contents writer.new) }
 {
-    if json {
-        run_ask_json_unverified(folder, board, writer)
-    } else {
-        run_ask_unverified(folder, board, writer)
+    match (query.unverified, query.json) {
+        (false, false) => run_ask(rt, alloc, folder, query.board, writer),
+        (false, true) => run_ask_json(rt, alloc, folder, query.board, writer),
+        (true, false) => run_ask_unverified(folder, query.board, writer),
+        (true, true) => run_ask_json_unverified(folder, query.board, writer),
     }
 }
 
-/// Prints what each legal move of a board is worth by the files.
-fn run_moves_said<F: Folder, W: Replies>(
+/// Prints what each legal move of a board is worth.
+fn run_moves_asked<T: Threads + Sync, F: Folder, W: Replies>(
+    rt: &T,
+    alloc: Global,
     folder: &mut F,
     query: MovesQuery<'_>,
-    json: bool,
     writer: &mut W,
 ) -> u8
     ensures status { result ≤ 1 }
     ensures same { Same (F.state folder.old).stands (F.state folder.new).stands }
-    ensures printed { result ≡ 0 → PrintsWorthsSaidBy json query.entry.replies (F.state folder.old).stands query.entry.board.now (W.contents writer.old) (W.contents writer.new) }
+    ensures printed { result ≡ 0 → PrintsWorthsBy query.entry.unverified query.entry.json query.entry.replies (F.state folder.old).stands query.entry.board.now
+        (W.contents writer.old) (W.contents writer.new) }
 {
-    if json {
-        run_moves_json_unverified(folder, query, writer)
-    } else {
-        run_moves_unverified(folder, query, writer)
+    match (query.unverified, query.json) {
+        (false, false) => run_moves(rt, alloc, folder, query, writer),
+        (false, true) => run_moves_json(rt, alloc, folder, query, writer),
+        (true, false) => run_moves_unverified(folder, query, writer),
+        (true, true) => run_moves_json_unverified(folder, query, writer),
+    }
+}
+
+/// Prints the line of play that is asked for.
+fn run_line_asked<T: Threads + Sync, F: Folder, W: Replies>(
+    rt: &T,
+    alloc: Global,
+    folder: &mut F,
+    query: LineQuery<'_>,
+    writer: &mut W,
+) -> u8
+    ensures status { result ≤ 1 }
+    ensures same { Same (F.state folder.old).stands (F.state folder.new).stands }
+    ensures printed { result ≡ 0 → PrintsLineAsked query.entry.plies query.entry.unverified query.entry.longest query.entry.json (F.state folder.old).stands query.entry.board.now
+        (W.contents writer.old) (W.contents writer.new) }
+{
+    match (query.plies, query.unverified) {
+        (false, false) => run_line_of(rt, alloc, folder, query, writer),
+        (false, true) => run_line_unverified(alloc, folder, query, writer),
+        (true, false) => run_plies(rt, alloc, folder, query, writer),
+        (true, true) => run_plies_unverified(alloc, folder, query, writer),
+    }
+}
+
+/// Prints levels in numbers, or a level by two columns. CSV is refused as 96 if no columns are asked for.
+fn run_numbers<T: Threads + Sync, F: Folder, W: Replies>(
+    rt: &T,
+    alloc: Global,
+    folder: &mut F,
+    query: CountsQuery<'_>,
+    writer: &mut W,
+) -> u8
+    ensures status { result ≤ 1 }
+    ensures same { Same (F.state folder.old).stands (F.state folder.new).stands }
+    ensures printed { result ≡ 0 → PrintsNumbers query.entry.by query.entry (F.state folder.old).stands (W.contents writer.old) (W.contents writer.new) }
+{
+    match query.by {
+        Some(_) => run_pairs(rt, alloc, folder, &query, writer),
+        None if query.csv => refuse(writer, NoAnswer::Column),
+        None => run_counts(rt, alloc, folder, query, writer),
     }
 }
 
 /// Whether the question is to be answered by what the files say, with nothing verified.
 fn is_unverified(question: Question<'_>) -> bool {
     match question {
-        Question::Ask { unverified, .. }
-        | Question::Moves { unverified, .. }
-        | Question::Line { unverified, .. }
-        | Question::Serve { unverified, .. }
-        | Question::Counts { unverified, .. }
-        | Question::Boards(BoardsQuery { unverified, .. }) => unverified,
-        Question::Verify { .. } | Question::Text { .. } => false,
+        Question::Verify(_) | Question::Text(_) => false,
+        Question::Ask(query) => query.unverified,
+        Question::Moves(query) => query.unverified,
+        Question::Line(query) => query.unverified,
+        Question::Serve(query) => query.unverified,
+        Question::Counts(query) => query.unverified,
+        Question::Boards(query) => query.unverified,
     }
 }
 
 /// Prints the line of play that is asked for, in one line.
 fn run_line_of<T: Threads + Sync, F: Folder, W: Replies>(
     rt: &T,
-    folder: &mut F,
     alloc: Global,
-    query: PliesQuery<'_>,
+    folder: &mut F,
+    query: LineQuery<'_>,
     writer: &mut W,
 ) -> u8
     ensures status { result ≤ 1 }
@@ -257,9 +203,9 @@ fn run_line_of<T: Threads + Sync, F: Folder, W: Replies>(
     ensures printed { result ≡ 0 → PrintsLineBy query.entry.longest query.entry.json (F.state folder.old).stands query.entry.board.now (W.contents writer.old) (W.contents writer.new) }
 {
     match (query.longest, query.json) {
-        (false, false) => run_line(rt, folder, alloc, query.board, writer),
-        (false, true) => run_line_json(rt, folder, alloc, query.board, writer),
-        (true, false) => run_longest_line(rt, folder, alloc, query.board, writer),
-        (true, true) => run_longest_json(rt, folder, alloc, query.board, writer),
+        (false, false) => run_line(rt, alloc, folder, query.board, writer),
+        (false, true) => run_line_json(rt, alloc, folder, query.board, writer),
+        (true, false) => run_longest_line(rt, alloc, folder, query.board, writer),
+        (true, true) => run_longest_json(rt, alloc, folder, query.board, writer),
     }
 }

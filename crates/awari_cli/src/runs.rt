@@ -15,9 +15,7 @@ ghost use Rattle.clap.specs.Simple.{subcommand_of, subcommand_rows_of};
 
 use crate::hosts::Host;
 use crate::reading::{Reading, run_reading};
-use crate::writing::{
-    Asked, AskedBuild, Build, Migration, run_build_asked, run_estimate, run_migration,
-};
+use crate::writing::{Migration, run_build_asked, run_estimate, run_migration};
 use awari_answers::{
     Played, Replies, Streams, judge, play_on, print, refuse, status_of, tell_answer,
 };
@@ -50,7 +48,7 @@ pub fn run<
     R: Read,
     W: Replies,
     E: Write + Send,
->(rt: &T, host: &mut H, alloc: Global, words: &'a [S], streams: &mut Streams<R, W, E>) -> u8
+>(rt: &T, alloc: Global, host: &mut H, words: &'a [S], streams: &mut Streams<R, W, E>) -> u8
     ensures status { result ≤ 2 }
 
     // Unless it ends with 2, the words name a request, and have no fault. If it ends with 0, what is
@@ -67,7 +65,7 @@ pub fn run<
     ensures nothing { result ≡ 2 → Keeps (W.contents streams.old.output) (W.contents streams.new.output) × AllStay H.keeps (H.holds host.old) (H.holds host.new) }
 {
     match understand(alloc, words) {
-        Ok(matches) => run_understood(rt, host, alloc, &matches, streams),
+        Ok(matches) => run_understood(rt, alloc, host, &matches, streams),
         Err(error) => {
             // There is nowhere to say that this could not be written.
             let _ = write!(streams.errors, "{error}");
@@ -86,8 +84,8 @@ fn run_understood<
     E: Write + Send,
 >(
     rt: &T,
-    host: &mut H,
     alloc: Global,
+    host: &mut H,
     matches: &ArgMatches<'a>,
     streams: &mut Streams<R, W, E>,
 ) -> u8
@@ -99,7 +97,7 @@ fn run_understood<
     ensures nothing { result ≡ 2 → Keeps (W.contents streams.old.output) (W.contents streams.new.output) × AllStay H.keeps (H.holds host.old) (H.holds host.new) }
 {
     match request_of(matches) {
-        Some(request) => run_request(rt, host, alloc, request, streams),
+        Some(request) => run_request(rt, alloc, host, request, streams),
         // `clap` lets no other command through.
         None => 2,
     }
@@ -114,8 +112,8 @@ fn run_request<
     E: Write + Send,
 >(
     rt: &T,
-    host: &mut H,
     alloc: Global,
+    host: &mut H,
     request: Request<'_, 'a>,
     streams: &mut Streams<R, W, E>,
 ) -> u8
@@ -135,44 +133,18 @@ fn run_request<
         Request::Judge {
             board,
             limit,
-            moves: None,
-        } => run_judge(board, limit, &[], &mut streams.output),
-        Request::Judge {
-            board,
-            limit,
-            moves: Some(moves),
-        } => run_judge(board, limit, moves, &mut streams.output),
+            moves,
+        } => run_judge(board, limit, moves.unwrap_or(&[]), &mut streams.output),
         Request::Rank { board } => run_rank(board, &mut streams.output),
         Request::Board { level, rank } => run_board(level, rank, &mut streams.output),
         Request::Plays { board, plies } => run_plays(alloc, board, plies, &mut streams.output),
-        Request::Build {
-            top,
-            folder,
-            estimate: true,
-            ..
-        } => run_estimate(host, Asked { folder, top }, &mut streams.errors),
-        Request::Build {
-            top,
-            folder,
-            threads,
-            pace,
-            progress,
-            estimate: false,
-        } => {
-            let build = Build {
-                top,
-                threads,
-                pace,
-                progress,
-                anew: host.machine().on_terminal,
-            };
-            run_build_asked(rt, host, alloc, AskedBuild { folder, build }, streams)
-        }
+        Request::Build(query) if query.estimate => run_estimate(host, query, &mut streams.errors),
+        Request::Build(query) => run_build_asked(rt, alloc, host, query, streams),
         Request::Migrate { from, to } => {
-            run_migration(host, alloc, Migration { from, to }, streams)
+            run_migration(alloc, host, Migration { from, to }, streams)
         }
         Request::Read { folder, question } => {
-            run_reading(rt, host, alloc, Reading { folder, question }, streams)
+            run_reading(rt, alloc, host, Reading { folder, question }, streams)
         }
     }
 }

@@ -17,6 +17,7 @@ use awari_build::{BuildFault, Pace};
 use awari_desk::{DeskFault, Publisher, Reader, ServeFault, desk, serve};
 use awari_folder::{Folder, FolderFault, Together, load};
 use awari_phase::PhaseFault;
+use awari_queries::ServeQuery;
 use awari_table::{Counted, HIGHEST_LEVEL, Level, Shelf};
 use core::mem::replace_with;
 use rayon::current_num_threads;
@@ -129,17 +130,8 @@ struct Grower<T> {
     wanted: WhileServed,
 }
 
-/// How the levels grow while a service lasts.
-#[derive(Clone, Copy)]
-pub struct Growth {
-    /// The highest level that is built.
-    pub top: u8,
-    /// How many owners build a level; 0 if all processors do it together.
-    pub owners: u8,
-}
-
 /// Answers the lines of the input by the levels of the folder, and by the levels above them, which a
-/// thread builds and publishes meanwhile as `growth` says. Nothing is saved. A refusal is printed
+/// thread builds and publishes meanwhile as `query` says. Nothing is saved. A refusal is printed
 /// after the answers, unless these could not be written.
 ///
 /// Once nobody can ask any more, the thread stops at the next gain, distance or round, and that is no
@@ -150,7 +142,7 @@ pub fn run_serve<
     R: Read,
     W: Replies,
     E: Write,
->(rt: &T, folder: &mut F, alloc: Global, growth: Growth, streams: &mut Streams<R, W, E>) -> u8
+>(rt: &T, alloc: Global, folder: &mut F, query: ServeQuery, streams: &mut Streams<R, W, E>) -> u8
     ensures status { result ≤ 1 }
 
     // What was written is a service by right levels, of which the first are those of the folder, which
@@ -158,7 +150,7 @@ pub fn run_serve<
     ensures same { Same (F.state folder.old).stands (F.state folder.new).stands }
     ensures served { result ≡ 0 → PrintsService (F.state folder.old).stands (R.remaining streams.old.input) (W.contents streams.old.output) (W.contents streams.new.output) }
 {
-    match serve_beside(rt, folder, alloc, growth, streams) {
+    match serve_beside(rt, alloc, folder, query, streams) {
         Ok(Grown::ToTop | Grown::Stopped) => 0,
         Err(
             ServingFault::Serve {
@@ -179,20 +171,20 @@ fn serve_beside<
     E: Write,
 >(
     rt: &T,
-    folder: &mut F,
     alloc: Global,
-    growth: Growth,
+    folder: &mut F,
+    query: ServeQuery,
     streams: &mut Streams<R, W, E>,
 ) -> Result<Grown, ServingFault>
     ensures same { Same (F.state folder.old).stands (F.state folder.new).stands }
     ensures served { OnOk result (PrintsService (F.state folder.old).stands (R.remaining streams.old.input) (W.contents streams.old.output) (W.contents streams.new.output)) }
-    ensures grown { IfOk result (λ end. end ≡ Grown.ToTop → HasLevelsTo growth.top) }
+    ensures grown { IfOk result (λ end. end ≡ Grown.ToTop → HasLevelsTo query.top) }
 {
     let stored = load(&Together(rt), alloc, folder, HIGHEST_LEVEL)?;
     let (publisher, known) = published(rt.clone()?, alloc, &stored.shelf)?;
     let (service, wanted) = lasting_service(alloc)?;
-    let grower = grower_for(rt.clone()?, alloc, growth, wanted);
-    let top = growth.top;
+    let grower = grower_for(rt.clone()?, alloc, query, wanted);
+    let top = query.top;
     let Ok(builder) = thread::spawn_with(rt, GrowsTo(top), move || grow(grower, publisher, top))
     else {
         return Err(ServingFault::Start {
@@ -208,12 +200,12 @@ fn serve_beside<
     Ok(end)
 }
 
-/// What builds levels as `growth` says: by so many owners, or by all processors together if there are none.
-fn grower_for<T: Threads>(rt: T, alloc: Global, growth: Growth, wanted: WhileServed) -> Grower<T>
-    ensures owners { 0 < growth.owners → result.way ≡ Way.Owners (record { owners = growth.owners; room = 64; sweeps = 1000 }) }
-    ensures together { growth.owners ≡ 0 → (threads : ℕ) × (result.way ≡ Way.Together threads) }
+/// What builds levels as `query` says: by this many owners, or by all processors together if there are none.
+fn grower_for<T: Threads>(rt: T, alloc: Global, query: ServeQuery, wanted: WhileServed) -> Grower<T>
+    ensures owners { 0 < query.owners → result.way ≡ Way.Owners (record { owners = query.owners; room = 64; sweeps = 1000 }) }
+    ensures together { query.owners ≡ 0 → (threads : ℕ) × (result.way ≡ Way.Together threads) }
 {
-    let way = way_of(current_num_threads(&rt), Pace::usual(growth.owners));
+    let way = way_of(current_num_threads(&rt), Pace::usual(query.owners));
     Grower {
         rt,
         alloc,

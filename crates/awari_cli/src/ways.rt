@@ -16,20 +16,20 @@ use std::alloc::Global;
 use std::sync::Wait;
 use std::thread::Threads;
 
-/// From so many threads on, one saves a level while the others build the next. Of fewer, one is missed for longer
+/// From this many threads on, one saves a level while the others build the next. Of fewer, one is missed for longer
 /// than a save takes.
 const THREADS_TO_SHARE: usize = 4;
 
 /// By whom a level is built.
 #[derive(Clone, Copy)]
 pub(crate) enum Way {
-    /// By so many threads together.
+    /// By this many threads together.
     Together { threads: usize },
     /// By the owners of this pace.
     Owners { pace: Pace },
 }
 
-/// By the owners of the pace, or by so many threads together if it has none.
+/// By the owners of the pace, or by this many threads together if it has none.
 pub(crate) fn way_of(threads: usize, pace: Pace) -> Way
     ensures together { pace.owners ≡ 0 → result ≡ Way.Together threads }
     ensures owners { 0 < pace.owners → result ≡ Way.Owners pace }

@@ -13,9 +13,9 @@ use crate::hosts::{Host, Purpose};
 use crate::migrating::run_migrate;
 use crate::progress::{HowTold, ProgressLines};
 use awari_answers::{Replies, Streams, load_watched, print, refuse};
-use awari_build::Pace;
 use awari_folder::Folder;
 use awari_heard::{Progress, Silent};
+use awari_words::BuildQuery;
 use rayon::current_num_threads;
 use std::alloc::Global;
 use std::io::{Read, Write};
@@ -23,39 +23,29 @@ use std::sync::Wait;
 use std::thread::Threads;
 use std::time::Clock;
 
-/// What the words of `build` ask for, but its folder.
+/// A build, and how its progress is told.
 #[derive(Clone, Copy)]
-pub(crate) struct Build {
-    pub(crate) top: u8,
-    pub(crate) threads: Option<u8>,
-    pub(crate) pace: Pace,
-    pub(crate) progress: bool,
+struct Build<'a> {
+    query: BuildQuery<'a>,
     /// Whether the error stream is a terminal, on which a line can be written anew.
-    pub(crate) anew: bool,
+    anew: bool,
 }
 
-impl Build {
+impl Build<'_> {
     /// How its progress is told.
     fn how_told(self) -> HowTold {
         HowTold {
-            top: self.top,
+            top: self.query.top,
             anew: self.anew,
         }
     }
-}
-
-/// A build, and the name of the folder in which it is to be, if one is named.
-#[derive(Clone, Copy)]
-pub(crate) struct AskedBuild<'a> {
-    pub(crate) folder: Option<&'a str>,
-    pub(crate) build: Build,
 }
 
 /// A build in the folder of this name.
 #[derive(Clone, Copy)]
 struct BuildIn<'a> {
     folder: &'a str,
-    build: Build,
+    build: Build<'a>,
 }
 
 /// Builds the levels that are asked for, in the folder if one is named.
@@ -66,19 +56,20 @@ pub(crate) fn run_build_asked<
     R: Read,
     W: Replies,
     E: Write + Send,
->(rt: &T, host: &mut H, alloc: Global, asked: AskedBuild<'a>, streams: &mut Streams<R, W, E>) -> u8
+>(rt: &T, alloc: Global, host: &mut H, query: BuildQuery<'a>, streams: &mut Streams<R, W, E>) -> u8
     ensures status { result ≤ 1 }
-    ensures leaves { LeavesFolders H.keeps (IsFolder asked.entry.folder) (H.holds host.old) (H.holds host.new) }
-    ensures built { result ≡ 0 → PrintsBuild H.keeps asked.entry.build.top asked.entry.folder (H.holds host.old) (H.holds host.new)
+    ensures leaves { LeavesFolders H.keeps (IsFolder query.entry.folder) (H.holds host.old) (H.holds host.new) }
+    ensures built { result ≡ 0 → PrintsBuild H.keeps query.entry.top query.entry.folder (H.holds host.old) (H.holds host.new)
         (W.contents streams.old.output) (W.contents streams.new.output) }
 {
-    let AskedBuild { folder, build } = asked;
-    match folder {
+    let anew = host.machine().on_terminal;
+    let build = Build { query, anew };
+    match query.folder {
         None => {
             tell_needs(host, 0, build, &mut streams.errors);
             run_build_alone(rt, alloc, build, streams)
         }
-        Some(folder) => run_build_on(rt, host, alloc, BuildIn { folder, build }, streams),
+        Some(folder) => run_build_on(rt, alloc, host, BuildIn { folder, build }, streams),
     }
 }
 
@@ -86,22 +77,22 @@ pub(crate) fn run_build_asked<
 fn run_build_alone<T: Threads + Clock + Wait + Sync, R: Read, W: Replies, E: Write>(
     rt: &T,
     alloc: Global,
-    build: Build,
+    build: Build<'_>,
     streams: &mut Streams<R, W, E>,
 ) -> u8
     ensures status { result ≤ 1 }
-    ensures built { result ≡ 0 → PrintsAllLevels build.top (W.contents streams.old.output) (W.contents streams.new.output) }
+    ensures built { result ≡ 0 → PrintsAllLevels build.entry.query.top (W.contents streams.old.output) (W.contents streams.new.output) }
 {
-    if build.progress {
+    if build.query.progress {
         let mut lines = ProgressLines::new(rt, &mut streams.errors, build.how_told());
         let mut builder = builder_for(rt, alloc, build, &mut lines);
-        let status = run_build(&mut builder, build.top, &mut streams.output);
+        let status = run_build(&mut builder, build.query.top, &mut streams.output);
         lines.end(status);
         return status;
     }
     let mut silent = Silent;
     let mut builder = builder_for(rt, alloc, build, &mut silent);
-    run_build(&mut builder, build.top, &mut streams.output)
+    run_build(&mut builder, build.query.top, &mut streams.output)
 }
 
 /// Builds the levels that are asked for in the folder of this name.
@@ -112,11 +103,11 @@ fn run_build_on<
     R: Read,
     W: Replies,
     E: Write + Send,
->(rt: &T, host: &mut H, alloc: Global, asked: BuildIn<'a>, streams: &mut Streams<R, W, E>) -> u8
+>(rt: &T, alloc: Global, host: &mut H, asked: BuildIn<'a>, streams: &mut Streams<R, W, E>) -> u8
     ensures status { result ≤ 1 }
     ensures others { OthersStay asked.entry.folder.now (H.holds host.old) (H.holds host.new) }
     ensures kept { H.keeps asked.entry.folder.now → KeepsFiles (H.holds host.old asked.entry.folder.now) (H.holds host.new asked.entry.folder.now) }
-    ensures built { result ≡ 0 → PrintsBuilt H.keeps asked.entry.build.top asked.entry.folder.now (H.holds host.old) (H.holds host.new)
+    ensures built { result ≡ 0 → PrintsBuilt H.keeps asked.entry.build.query.top asked.entry.folder.now (H.holds host.old) (H.holds host.new)
         (W.contents streams.old.output) (W.contents streams.new.output) }
 {
     let BuildIn {
@@ -124,7 +115,7 @@ fn run_build_on<
         build,
     } = asked;
     let mut folder = host.open(name, Purpose::Build, &mut streams.errors);
-    match host.lock(name, &mut folder, build.top, &mut streams.errors) {
+    match host.lock(name, &mut folder, build.query.top, &mut streams.errors) {
         Ok(()) => {}
         Err(fault) => {
             host.tell(name, &folder, &mut streams.errors);
@@ -133,7 +124,7 @@ fn run_build_on<
         }
     }
     tell_needs(host, host.levels_in(&folder), build, &mut streams.errors);
-    let status = run_build_of(rt, &mut folder, alloc, build, streams);
+    let status = run_build_of(rt, alloc, &mut folder, build, streams);
     host.tell(name, &folder, &mut streams.errors);
     host.close(name, folder);
     status
@@ -142,62 +133,60 @@ fn run_build_on<
 /// Builds the levels that are asked for in this folder.
 fn run_build_of<T: Threads + Clock + Wait + Sync, F: Folder, R: Read, W: Replies, E: Write + Send>(
     rt: &T,
-    folder: &mut F,
     alloc: Global,
-    build: Build,
+    folder: &mut F,
+    build: Build<'_>,
     streams: &mut Streams<R, W, E>,
 ) -> u8
     ensures status { result ≤ 1 }
     ensures kept { KeepsFiles (F.state folder.old).stands (F.state folder.new).stands }
-    ensures built { result ≡ 0 → PrintsLevels build.top (F.state folder.old).stands (F.state folder.new).stands (W.contents streams.old.output) (W.contents streams.new.output) }
+    ensures built { result ≡ 0 → PrintsLevels build.entry.query.top (F.state folder.old).stands (F.state folder.new).stands (W.contents streams.old.output) (W.contents streams.new.output) }
 {
-    let mut stored = match load_watched(rt, folder, alloc, build.progress, &mut streams.errors) {
+    let mut stored = match load_watched(
+        rt,
+        alloc,
+        folder,
+        build.query.progress,
+        &mut streams.errors,
+    ) {
         Ok(stored) => stored,
         Err(fault) => return refuse(&mut streams.output, fault),
     };
     let output = &mut streams.output;
-    if build.progress {
+    if build.query.progress {
         let mut lines = ProgressLines::new(rt, &mut streams.errors, build.how_told());
         let mut builder = builder_for(rt, alloc, build, &mut lines);
-        let status = build_up_in(&mut builder, folder, build.top, &mut stored, output);
+        let status = build_up_in(&mut builder, folder, build.query.top, &mut stored, output);
         lines.end(status);
         return status;
     }
     let mut silent = Silent;
     let mut builder = builder_for(rt, alloc, build, &mut silent);
-    build_up_in(&mut builder, folder, build.top, &mut stored, output)
+    build_up_in(&mut builder, folder, build.query.top, &mut stored, output)
 }
 
 /// Tells `errors` what a build of the levels from `first` on takes, if its progress is asked for, and if less
 /// memory is left.
-fn tell_needs<'a, H: Host<'a>, E: Write>(host: &H, first: u8, build: Build, errors: &mut E) {
-    let estimate = Estimate::of(first, build.top);
-    if build.progress {
+fn tell_needs<'a, H: Host<'a>, E: Write>(host: &H, first: u8, build: Build<'_>, errors: &mut E) {
+    let estimate = Estimate::of(first, build.query.top);
+    if build.query.progress {
         // There is nowhere to say that this could not be written.
         print(errors, &estimate);
     }
     warn_of_memory(estimate, host.machine().memory_left, errors);
 }
 
-/// A build that is not made, but tells what it would take: its highest level, and the folder's name if
-/// one is named.
-#[derive(Clone, Copy)]
-pub(crate) struct Asked<'a> {
-    pub(crate) folder: Option<&'a str>,
-    pub(crate) top: u8,
-}
-
 /// Tells `errors` what a build would take, and builds nothing.
 pub(crate) fn run_estimate<'a, H: Host<'a>, E: Write>(
     host: &mut H,
-    asked: Asked<'a>,
+    query: BuildQuery<'a>,
     errors: &mut E,
 ) -> u8
     ensures status { result ≡ 0 }
     ensures same { AllStay H.keeps (H.holds host.old) (H.holds host.new) }
 {
-    let first = first_to_build(host, asked.folder, errors);
-    let estimate = Estimate::of(first, asked.top);
+    let first = first_to_build(host, query.folder, errors);
+    let estimate = Estimate::of(first, query.top);
     // There is nowhere to say that this could not be written.
     print(errors, &estimate);
     warn_of_memory(estimate, host.machine().memory_left, errors);
@@ -225,17 +214,17 @@ fn first_to_build<'a, H: Host<'a>, E: Write>(
 fn builder_for<'a, T: Threads, P: Progress>(
     rt: &'a T,
     alloc: Global,
-    build: Build,
+    build: Build<'_>,
     progress: &'a mut P,
 ) -> Builder<'a, T, P>
-    ensures pace { result.pace ≡ build.pace }
-    ensures threads { (threads : ℕ) → build.threads ≡ Some threads → result.threads ≡ threads }
+    ensures pace { result.pace ≡ build.entry.query.pace }
+    ensures threads { (threads : ℕ) → build.entry.query.threads ≡ Some threads → result.threads ≡ threads }
 {
     Builder {
         rt,
         alloc,
-        threads: threads_of(rt, build.threads),
-        pace: build.pace,
+        threads: threads_of(rt, build.query.threads),
+        pace: build.query.pace,
         progress,
     }
 }
@@ -259,8 +248,8 @@ pub(crate) struct Migration<'a> {
 
 /// Brings the levels of one folder over into the other.
 pub(crate) fn run_migration<'a, H: Host<'a>, R: Read, W: Replies, E: Write>(
-    host: &mut H,
     alloc: Global,
+    host: &mut H,
     migration: Migration<'a>,
     streams: &mut Streams<R, W, E>,
 ) -> u8

@@ -25,7 +25,7 @@ const LOST: Entry = Entry {
     dist: 1,
 };
 
-/// No desk is made for so many readers.
+/// No desk is made for this many readers.
 fn expect_no_desk<R: Wait + Drop>(rt: &impl Abort, own: R, alloc: Global, readers: u8) {
     let fault = desk(own, alloc, readers).err();
     expect_equal(rt, readers, fault, Some(DeskFault::Readers));

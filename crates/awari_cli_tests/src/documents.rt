@@ -6,6 +6,7 @@
 //! | `JUDGED` | docs/RULES.md; the second also docs/MANUAL.md |
 //! | `RANKED`, `SIZES`, `COUNTED` | docs/RULES.md |
 //! | `README` | README.md; the first build and `moves` also docs/MANUAL.md |
+//! | `ALGORITHM` | docs/ALGORITHM.md |
 //!
 //! What else docs/MANUAL.md shows is tested by `commands`, `levels`, `files`, `texts`, `migrations`,
 //! `progress`, `questions` and `services`, and the files of docs/FORMATS.md by the crate `awari_file_tests`.
@@ -223,4 +224,209 @@ const COUNTED: [Line; 11] = [
 #[test]
 fn plays_are_counted_as_the_rules_say(rt: HostRuntime) {
     expect_lines(&rt, rt.alloc(), &COUNTED);
+}
+
+/// The boards of level 2 that are neither even nor ended, with their distances.
+const WAVES: &str = "\
+0,0,0,0,0,1/0,0,0,0,1,0 -2 5 1
+0,0,0,0,0,1/0,0,0,1,0,0 -2 5 1
+0,0,0,0,0,1/0,0,1,0,0,0 -2 5 1
+0,0,0,0,0,1/0,1,0,0,0,0 -2 5 1
+0,0,0,0,0,1/1,0,0,0,0,0 -2 5 1
+0,0,0,0,0,2/0,0,0,0,0,0 -2 5 1
+0,0,0,0,1,0/0,0,0,1,0,0 -2 4 3
+0,0,0,0,1,0/0,0,1,0,0,0 -2 4 3
+0,0,0,0,1,0/0,1,0,0,0,0 -2 4 3
+0,0,0,0,1,0/1,0,0,0,0,0 -2 4 3
+0,0,0,0,1,1/0,0,0,0,0,0 -2 5 5
+0,0,0,0,2,0/0,0,0,0,0,0 -2 4 3
+0,0,0,1,0,0/0,0,0,0,0,1 2 3 2
+0,0,0,1,0,0/0,0,1,0,0,0 -2 3 5
+0,0,0,1,0,0/0,1,0,0,0,0 -2 3 5
+0,0,0,1,0,0/1,0,0,0,0,0 -2 3 5
+0,0,0,1,0,1/0,0,0,0,0,0 -2 5 7
+0,0,1,0,0,0/0,0,0,0,0,1 2 2 2
+0,0,1,0,0,0/0,0,0,0,1,0 2 2 4
+0,0,1,0,0,0/0,1,0,0,0,0 -2 2 7
+0,0,1,0,0,0/1,0,0,0,0,0 -2 2 7
+0,0,1,0,0,1/0,0,0,0,0,0 -2 5 9
+0,1,0,0,0,0/0,0,0,0,0,1 2 1 2
+0,1,0,0,0,0/0,0,0,0,1,0 2 1 4
+0,1,0,0,0,0/0,0,0,1,0,0 2 1 6
+0,1,0,0,0,0/1,0,0,0,0,0 -2 1 9
+1,0,0,0,0,0/0,0,0,0,0,1 2 0 2
+1,0,0,0,0,0/0,0,0,0,1,0 2 0 4
+1,0,0,0,0,0/0,0,0,1,0,0 2 0 6
+1,0,0,0,0,0/0,0,1,0,0,0 2 0 8
+";
+
+/// Ten plies of a cycle of level 2 that stays even.
+const CYCLE: &str = "\
+ply 1 pit 5 captures 0 running 0 board 1,0,0,0,0,0/1,0,0,0,0,0 value 0 distance 0
+ply 2 pit 0 captures 0 running 0 board 1,0,0,0,0,0/0,1,0,0,0,0 value 0 distance 0
+ply 3 pit 0 captures 0 running 0 board 0,1,0,0,0,0/0,1,0,0,0,0 value 0 distance 0
+ply 4 pit 1 captures 0 running 0 board 0,1,0,0,0,0/0,0,1,0,0,0 value 0 distance 0
+ply 5 pit 1 captures 0 running 0 board 0,0,1,0,0,0/0,0,1,0,0,0 value 0 distance 0
+ply 6 pit 2 captures 0 running 0 board 0,0,1,0,0,0/0,0,0,1,0,0 value 0 distance 0
+ply 7 pit 2 captures 0 running 0 board 0,0,0,1,0,0/0,0,0,1,0,0 value 0 distance 0
+ply 8 pit 3 captures 0 running 0 board 0,0,0,1,0,0/0,0,0,0,1,0 value 0 distance 0
+ply 9 pit 3 captures 0 running 0 board 0,0,0,0,1,0/0,0,0,0,1,0 value 0 distance 0
+ply 10 pit 4 captures 0 running 0 board 0,0,0,0,1,0/0,0,0,0,0,1 value 0 distance 0
+";
+
+const FOLDER_OF_5: &str = "awari_cli_test_algorithm";
+
+const LEVELS_TO_5: &str = "\
+level 0 boards 1 won 0 even 1 lost 0 limit 0
+level 1 boards 12 won 5 even 0 lost 7 limit 1
+level 2 boards 78 won 24 even 13 lost 41 limit 9
+level 3 boards 364 won 121 even 64 lost 179 limit 28
+level 4 boards 1365 won 577 even 143 lost 645 limit 38
+level 5 boards 4368 won 2161 even 0 lost 2207 limit 60
+";
+
+/// What docs/ALGORITHM.md says of levels 2 to 5.
+const ALGORITHM: [Line; 18] = [
+    (
+        &["awari", "build", "5", "--folder", FOLDER_OF_5],
+        LEVELS_TO_5,
+        0,
+    ),
+    (&["awari", "rank", "0,0,0,0,0,1/1,0,0,0,0,0"], "2 26\n", 0),
+    (
+        &["awari", "ask", FOLDER_OF_5, "0,0,0,0,0,1/1,0,0,0,0,0"],
+        "-2 5 1\n",
+        0,
+    ),
+    (
+        &["awari", "boards", FOLDER_OF_5, "2", "--ended", "--count"],
+        "35\n",
+        0,
+    ),
+    (
+        &["awari", "boards", FOLDER_OF_5, "2", "--open", "--count"],
+        "43\n",
+        0,
+    ),
+    (
+        &[
+            "awari",
+            "boards",
+            FOLDER_OF_5,
+            "2",
+            "--open",
+            "--captures",
+            "1..",
+            "--count",
+        ],
+        "0\n",
+        0,
+    ),
+    (
+        &[
+            "awari",
+            "boards",
+            FOLDER_OF_5,
+            "2",
+            "--moves",
+            "2..",
+            "--count",
+        ],
+        "0\n",
+        0,
+    ),
+    (
+        &[
+            "awari",
+            "boards",
+            FOLDER_OF_5,
+            "2",
+            "--distance",
+            "0",
+            "--value",
+            "2",
+            "--count",
+        ],
+        "14\n",
+        0,
+    ),
+    (
+        &[
+            "awari",
+            "boards",
+            FOLDER_OF_5,
+            "2",
+            "--distance",
+            "0",
+            "--value",
+            "-2",
+            "--count",
+        ],
+        "21\n",
+        0,
+    ),
+    (
+        &[
+            "awari",
+            "boards",
+            FOLDER_OF_5,
+            "2",
+            "--value",
+            "0",
+            "--count",
+        ],
+        "13\n",
+        0,
+    ),
+    (
+        &["awari", "boards", FOLDER_OF_5, "2", "--distance", "1.."],
+        WAVES,
+        0,
+    ),
+    (
+        &["awari", "ask", FOLDER_OF_5, "0,1,0,0,0,1/0,0,0,0,0,0"],
+        "0 5 0\n",
+        0,
+    ),
+    (
+        &[
+            "awari",
+            "line",
+            FOLDER_OF_5,
+            "1,0,0,0,0,1/0,0,0,0,0,0",
+            "--plies",
+        ],
+        CYCLE,
+        0,
+    ),
+    (
+        &["awari", "moves", FOLDER_OF_5, "0,0,0,1,1,0/0,0,0,0,0,1"],
+        "pit 3 captures 0 value -3 distance 29\npit 4 captures 0 value 0 distance 0 plan\n",
+        0,
+    ),
+    (
+        &["awari", "ask", FOLDER_OF_5, "0,0,0,0,1,2/0,1,0,0,1,0"],
+        "-1 5 15\n",
+        0,
+    ),
+    (
+        &["awari", "moves", FOLDER_OF_5, "0,0,0,0,1,2/0,1,0,0,1,0"],
+        "pit 4 captures 0 value -5 distance 15\npit 5 captures 2 value -1 distance 1 plan\n",
+        0,
+    ),
+    (
+        &["awari", "ask", FOLDER_OF_5, "1,0,0,0,1,0/0,0,0,0,1,0"],
+        "3 0 4\n",
+        0,
+    ),
+    (
+        &["awari", "moves", FOLDER_OF_5, "0,1,0,0,1,0/0,0,0,0,0,3"],
+        "pit 1 captures 0 value 1 distance 2\npit 4 captures 0 value 5 distance 14 plan\n",
+        0,
+    ),
+];
+
+#[test]
+fn the_page_of_the_algorithm_is_right_of_its_boards(rt: HostRuntime) -> io::Result<()> {
+    expect_in_folder(&rt, FOLDER_OF_5, &ALGORITHM)
 }

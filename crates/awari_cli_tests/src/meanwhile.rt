@@ -58,7 +58,7 @@ impl Progress for Wanting {
 
 impl BuildProgress for Wanting {}
 
-/// Builds up to level 1 by so many threads, and compares what is printed, the status, and how many levels
+/// Builds up to level 1 by this many threads, and compares what is printed, the status, and how many levels
 /// were begun.
 fn expect_build(
     rt: &(impl Abort + AllocGlobal + Threads + Wait + Sync),

@@ -31,7 +31,7 @@ fn file_of(
     Ok(fs::read(rt, name.as_str())?)
 }
 
-/// Two folders have the same files of so many levels.
+/// Two folders have the same files of this many levels.
 fn expect_same(
     rt: &(impl Abort + Files<File = File> + AllocGlobal),
     alloc: Global,
@@ -56,7 +56,7 @@ level 5 boards 4368 won 2161 even 0 lost 2207 limit 60
 level 6 boards 12376 won 5707 even 1545 lost 5124 limit 64
 ";
 
-/// Builds levels 0 to 6 in a new folder, by so many owners, with lines of this room and so many
+/// Builds levels 0 to 6 in a new folder, by this many owners, with lines of this room and this many
 /// sweeps a round.
 fn build(
     rt: &(impl Abort

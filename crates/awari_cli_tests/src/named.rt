@@ -89,7 +89,7 @@ fn expect_line(
         output: Vec::new(alloc),
         errors: io::sink(),
     };
-    let status = run(rt, host, alloc, words, &mut streams);
+    let status = run(rt, alloc, host, words, &mut streams);
     let found = (str::from_utf8(&streams.output), status);
     expect_equal(rt, words, found, (Ok(printed), expected));
 }

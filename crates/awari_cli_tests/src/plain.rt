@@ -4,7 +4,7 @@
 
 use awari_build::Pace;
 use awari_cli::{
-    BuildProgress, Builder, Disk, Growth, HowTold, MovesQuery, ProgressLines, Replies, Streams,
+    BuildProgress, Builder, Disk, HowTold, MovesQuery, ProgressLines, Replies, ServeQuery, Streams,
     VerifyQuery, run, run_ask, run_build_in, run_line, run_moves, run_serve, run_text, run_verify,
 };
 use awari_file_tests::MemoryFolder;
@@ -75,7 +75,7 @@ fn build_to(
     run_build_in(&mut builder, folder, top, output)
 }
 
-/// Builds up to level 1 in the folder by so many threads together, and gives the status.
+/// Builds up to level 1 in the folder by this many threads together, and gives the status.
 pub(crate) fn build_by(
     rt: &(impl AllocGlobal + Threads + Wait + Sync),
     threads: usize,
@@ -133,7 +133,7 @@ pub(crate) fn verified_as(
         output,
         errors,
     };
-    run_verify(rt, folder, rt.alloc(), query, &mut streams)
+    run_verify(rt, rt.alloc(), folder, query, &mut streams)
 }
 
 /// Asks the folder for a board, and gives the status.
@@ -143,7 +143,7 @@ pub(crate) fn asked(
     board: &str,
     output: &mut Vec<u8>,
 ) -> u8 {
-    run_ask(rt, folder, rt.alloc(), board, output)
+    run_ask(rt, rt.alloc(), folder, board, output)
 }
 
 /// Plays the line of a board by the folder, and gives the status.
@@ -153,7 +153,7 @@ pub(crate) fn lined(
     board: &str,
     output: &mut impl Replies,
 ) -> u8 {
-    run_line(rt, folder, rt.alloc(), board, output)
+    run_line(rt, rt.alloc(), folder, board, output)
 }
 
 /// Says what the moves of a board are worth by the folder, and gives the status.
@@ -166,8 +166,10 @@ pub(crate) fn weighed(
     let query = MovesQuery {
         board,
         replies: false,
+        json: false,
+        unverified: false,
     };
-    run_moves(rt, folder, rt.alloc(), query, output)
+    run_moves(rt, rt.alloc(), folder, query, output)
 }
 
 /// Prints the text of the levels of the folder, and gives the status.
@@ -176,7 +178,7 @@ pub(crate) fn texted(
     folder: &mut MemoryFolder,
     output: &mut impl Replies,
 ) -> u8 {
-    run_text(rt, folder, rt.alloc(), None, output)
+    run_text(rt, rt.alloc(), folder, None, output)
 }
 
 /// Prints the boards of level 1 of the folder, and gives the status.
@@ -204,7 +206,7 @@ pub(crate) fn listed(
         csv: false,
         unverified: false,
     };
-    run_boards(rt, folder, rt.alloc(), &query, output)
+    run_boards(rt, rt.alloc(), folder, &query, output)
 }
 
 /// Prints the boards of all levels of the folder, and gives the status.
@@ -213,10 +215,10 @@ pub(crate) fn all_listed(
     folder: &mut MemoryFolder,
     output: &mut impl Replies,
 ) -> u8 {
-    run_all_boards(rt, folder, rt.alloc(), None, output)
+    run_all_boards(rt, rt.alloc(), folder, None, output)
 }
 
-/// Serves the folder while levels up to this one are built by so many owners, and gives the status.
+/// Serves the folder while levels up to this one are built by this many owners, and gives the status.
 pub(crate) fn served(
     rt: &(impl AllocGlobal + Threads + Wait + Sync + Send + Clone + Drop + 'static),
     folder: &mut MemoryFolder,
@@ -229,7 +231,12 @@ pub(crate) fn served(
         output,
         errors: io::sink(),
     };
-    run_serve(rt, folder, rt.alloc(), Growth { top, owners }, &mut streams)
+    let query = ServeQuery {
+        top,
+        owners,
+        unverified: false,
+    };
+    run_serve(rt, rt.alloc(), folder, query, &mut streams)
 }
 
 /// Serves a folder by what its files say, and gives the status.
@@ -255,5 +262,5 @@ pub(crate) fn run_on_disk<'a>(
     words: &'a [&'a str],
     streams: &mut Streams<impl Read, impl Replies, impl Write + Send>,
 ) -> u8 {
-    run(rt, &mut Disk::new(rt, alloc), alloc, words, streams)
+    run(rt, alloc, &mut Disk::new(rt, alloc), words, streams)
 }

@@ -14,7 +14,7 @@ use std::thread::Threads;
 use std::time::{Clock, Duration};
 use std::{io, str};
 
-/// A clock that goes on by so many milliseconds whenever it is asked.
+/// A clock that goes on by this many milliseconds whenever it is asked.
 #[derive(Drop)]
 struct Ticking {
     step: u64,

@@ -39,7 +39,7 @@ fn published<R: Wait + Drop>(
     Ok(publisher.publish(level))
 }
 
-/// Publishes the level of this number, which is the next one. Where that is refused, the book and what
+/// Publishes the level of this number, which is the next one. If that is refused, the book and what
 /// the reader has seen stay.
 fn expect_published<R: Wait + Drop>(
     rt: &impl Abort,

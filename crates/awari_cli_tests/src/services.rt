@@ -159,7 +159,7 @@ impl Write for Stiff {
     }
 }
 
-/// Gives so many bytes of one line, and then these.
+/// Gives this many bytes of one line, and then these.
 #[derive(Drop)]
 struct Long<'a> {
     before: usize,

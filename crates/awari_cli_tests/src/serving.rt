@@ -226,7 +226,7 @@ impl Passing {
     }
 }
 
-/// So many lines came, or all lines of an answer as one, each by one write and one flush behind it.
+/// This many lines came, or all lines of an answer as one, each by one write and one flush behind it.
 fn expect_passed(rt: &impl Abort, case: &str, output: &Passing, lines: u32) {
     let found = (output.writes, output.flushes, output.is_held);
     expect_equal(rt, case, found, (lines, lines, false));

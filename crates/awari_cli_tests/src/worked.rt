@@ -15,7 +15,7 @@ use std::test::Fail;
 use std::thread::Threads;
 use std::time::Clock;
 
-/// So many levels, built.
+/// This many levels, built.
 fn built(alloc: Global, levels: u8) -> Result<Shelf, Fail> {
     let mut shelf = Shelf::empty();
     for _level in 0..levels {

@@ -1,19 +1,10 @@
 -- The levels in a folder, up to one that is there.
 use Rattle.std.specs.Prelude.{ℕ, ◌<◌, List, length, min, Option}
 use Rattle.awari_answers.specs.Asked.{AreLevelsTo}
-use Rattle.awari_folder.specs.FolderFault.{fault_text as folder_fault_text}
-use Rattle.awari_table.specs.NotYet.{fault_text as not_yet_text}
 use Rattle.awari_table.specs.declared.TheConstants.{HIGHEST_LEVEL}
 use Rattle.awari_table.specs.declared.images.Image.{Image}
-use Rattle.awari_facts.specs.declared.loads.LevelFault.{LevelFault}
-use Rattle.awari_facts.specs.declared.loads.LevelFault.TheVariants.{Folder, NotYet}
 
 -- right levels: those up to this one that the folder stores, where it is known what its names have; and this one is among them
 pub record HasLevel (level : ℕ) (stands : ℕ → Option (Option (List ℕ))) (images : List Image) : Type 0 where
   pub levels : AreLevelsTo (min level HIGHEST_LEVEL) stands images
   pub known : level < length images
-
--- the fault inside it
-abbrev pub level_fault_text : LevelFault → List ℕ
-level_fault_text (Folder fault) = folder_fault_text fault
-level_fault_text (NotYet fault) = not_yet_text fault

@@ -28,7 +28,7 @@ number_in images Keep board = pos (keeping_moves images board)
 abbrev pub IsNumber : ℤ → Type 0
 IsNumber n = neg_ℤ (pos 128) ≤ℤ n
 
--- the board of a rank of a level, and its entry: `tuples 12 level` are the boards of so many stones in lexicographic order
+-- the board of a rank of a level, and its entry: `tuples 12 level` are the boards with this many stones in lexicographic order
 pub record IsAt (images : List Image) (level rank : ℕ) (board : List ℕ) (e : Entry) : Type 0 where
   pub listed : slice_get (tuples 12 level) rank ≡ Some board
   pub entry : e ≡ entry_of images board

@@ -22,7 +22,7 @@ mod numbers;
 mod sources;
 
 pub use facts::{legal_moves, own_stones, plan_captures};
-pub use loads::{LevelFault, load_to, open_all, open_to};
+pub use loads::{load_to, open_all, open_to};
 pub use looks::{Gained, Gains, gains_of, gains_on, moves_gaining, trap_by, waits};
 pub use numbers::{Seen, number_of, number_on};
 pub use sources::{Source, count_levels, entry_at, entry_on, read_entry, read_limit};

@@ -4,72 +4,38 @@ ghost use Rattle.std.specs.Prelude.{◌≡◌, ◌<◌, ◌≤◌, ◌+◌, ℕ,
 ghost use Rattle.awari_folder.specs.Contents.{AreNames, Same};
 ghost use Rattle.awari_places.specs.Opening.{AreFramed};
 ghost use Rattle.awari_facts.specs.Loads.{HasLevel};
-ghost use Rattle.awari_facts.specs.declared.loads.LevelFault.TheVariants as level_fault;
 ghost use Rattle.awari_table.specs.declared.TheConstants.{HIGHEST_LEVEL};
 
-use awari_answers::load_levels;
-use awari_folder::{Folder, FolderFault};
+use awari_answers::{NoAnswer, load_levels};
+use awari_folder::Folder;
 use awari_places::{Opened, open_levels};
 use awari_table::{HIGHEST_LEVEL, NotYet, Shelf};
 use std::alloc::Global;
-use std::fmt;
 use std::thread::Threads;
-
-/// Why a folder gives no answer about a level. It is printed as the fault inside it.
-#[derive(Clone, Copy, Debug, PartialEq, Eq)]
-pub enum LevelFault {
-    /// The folder is not loaded.
-    Folder { fault: FolderFault },
-    /// 59: the folder does not have the level.
-    NotYet { fault: NotYet },
-}
-
-impl From<FolderFault> for LevelFault {
-    ghost from_gives = { λ fault e. e ≡ level_fault.Folder fault };
-
-    fn from(fault: FolderFault) -> Self {
-        LevelFault::Folder { fault }
-    }
-}
-
-impl fmt::Display for LevelFault {
-    ghost use Rattle.std.specs.Prelude.{Some};
-    ghost use Rattle.awari_facts.specs.Loads.{level_fault_text};
-
-    ghost output = { λ fault. Some (level_fault_text fault) };
-
-    fn fmt<W: fmt::Write>(&self, f: &mut fmt::Formatter<W>) -> fmt::Result {
-        match *self {
-            LevelFault::Folder { fault } => write!(f, "{fault}"),
-            LevelFault::NotYet { fault } => write!(f, "{fault}"),
-        }
-    }
-}
 
 /// The levels in a folder up to this one. It is refused as [`load_levels`] is, or as 59 if the level is
 /// not there.
 pub fn load_to<T: Threads + Sync, F: Folder>(
     rt: &T,
-    folder: &mut F,
     alloc: Global,
+    folder: &mut F,
     level: u8,
-) -> Result<Shelf, LevelFault>
+) -> Result<Shelf, NoAnswer>
     ensures levels { IfOk result (HasLevel level (F.state folder.old).stands) }
     ensures same { Same (F.state folder.old).stands (F.state folder.new).stands }
 {
-    let shelf = load_levels(rt, folder, alloc, level)?;
+    let shelf = load_levels(rt, alloc, folder, level)?;
     let levels = shelf.levels();
     if level >= levels {
-        return Err(LevelFault::NotYet {
-            fault: NotYet { levels },
-        });
+        let fault = NotYet { levels };
+        return Err(NoAnswer::NotYet { fault });
     }
     Ok(shelf)
 }
 
 /// The levels in a folder up to this one, by the headers of their files. It is refused as
 /// [`open_levels`] is, or as 59 if the level is not there.
-pub fn open_to<F: Folder>(folder: &mut F, level: u8) -> Result<Opened, LevelFault>
+pub fn open_to<F: Folder>(folder: &mut F, level: u8) -> Result<Opened, NoAnswer>
     ensures framed { IfOk result (λ opened. (names : ℕ → Option (List ℕ)) → AreNames (F.state folder.old).stands names → AreFramed (min level HIGHEST_LEVEL) names opened) }
     ensures known { IfOk result (λ opened. level < opened.levels) }
     ensures few { IfOk result (λ opened. opened.levels ≤ HIGHEST_LEVEL + 1) }
@@ -78,15 +44,14 @@ pub fn open_to<F: Folder>(folder: &mut F, level: u8) -> Result<Opened, LevelFaul
     let opened = open_levels(folder, level.min(HIGHEST_LEVEL))?;
     let levels = opened.levels;
     if level >= levels {
-        return Err(LevelFault::NotYet {
-            fault: NotYet { levels },
-        });
+        let fault = NotYet { levels };
+        return Err(NoAnswer::NotYet { fault });
     }
     Ok(opened)
 }
 
 /// All levels in a folder, by the headers of their files. It is refused as [`open_levels`] is.
-pub fn open_all<F: Folder>(folder: &mut F) -> Result<Opened, LevelFault>
+pub fn open_all<F: Folder>(folder: &mut F) -> Result<Opened, NoAnswer>
     ensures framed { IfOk result (λ opened. (names : ℕ → Option (List ℕ)) → AreNames (F.state folder.old).stands names → AreFramed HIGHEST_LEVEL names opened) }
     ensures few { IfOk result (λ opened. opened.levels ≤ HIGHEST_LEVEL + 1) }
     ensures same { Same (F.state folder.old).stands (F.state folder.new).stands }

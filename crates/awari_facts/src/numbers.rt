@@ -30,7 +30,7 @@ pub struct Seen {
 }
 
 impl Seen {
-    /// The board. Conditions: the level is at most 24, and has so many boards.
+    /// The board. Conditions: the level is at most 24, and has that many boards.
     pub fn board(&self) -> PackedBoard
         requires level { self.now.level ≤ HIGHEST_LEVEL }
         requires rank { self.now.rank < size_of self.now.level }
@@ -54,7 +54,7 @@ fn or_less(number: Option<u8>) -> i64
 }
 
 /// The number of a column, but for how many moves keep the value: that needs other boards. Conditions: the
-/// level is at most 24, and has so many boards.
+/// level is at most 24, and has that many boards.
 fn own_number(column: Column, seen: &Seen) -> Option<i64>
     requires level { seen.now.level ≤ HIGHEST_LEVEL }
     requires rank { seen.now.rank < size_of seen.now.level }
@@ -73,7 +73,7 @@ fn own_number(column: Column, seen: &Seen) -> Option<i64>
     }
 }
 
-/// The number of a column by verified levels. Conditions: the level is there, and has so many boards.
+/// The number of a column by verified levels. Conditions: the level is there, and has that many boards.
 pub fn number_on(shelf: &Shelf, column: Column, seen: &Seen) -> i64
     requires level { seen.now.level < length shelf.now }
     requires rank { seen.now.rank < size_of seen.now.level }
@@ -88,7 +88,7 @@ pub fn number_on(shelf: &Shelf, column: Column, seen: &Seen) -> i64
     }
 }
 
-/// The number of a column. Conditions: the level is there, and has so many boards.
+/// The number of a column. Conditions: the level is there, and has that many boards.
 pub fn number_of<F: Folder>(
     source: Source<'_>,
     folder: &mut F,

@@ -19,7 +19,7 @@ use awari_table::{Entry, Shelf};
 pub enum Source<'s> {
     /// Right levels.
     Shelf(&'s Shelf),
-    /// Files, of which so many were opened. None of them is verified.
+    /// Files, of which this many were opened. None of them is verified.
     Files(u8),
 }
 
@@ -33,7 +33,7 @@ pub fn count_levels(source: Source<'_>) -> u8
     }
 }
 
-/// The entry of a rank of a verified level. Conditions: the level is there, and has so many boards.
+/// The entry of a rank of a verified level. Conditions: the level is there, and has that many boards.
 pub fn entry_on(shelf: &Shelf, level: u8, rank: u32) -> Entry
     requires level { level < length shelf.now }
     requires rank { rank < size_of level }
@@ -44,7 +44,7 @@ pub fn entry_on(shelf: &Shelf, level: u8, rank: u32) -> Entry
     shelf.level(level).entry_at(rank)
 }
 
-/// The entry of a rank of a level. Conditions: the level is there, and has so many boards; the run is
+/// The entry of a rank of a level. Conditions: the level is there, and has that many boards; the run is
 /// new, or was filled for this level.
 pub fn read_entry<F: Folder>(
     source: Source<'_>,

@@ -196,7 +196,7 @@ fn level_0_is_quiet_at_once(rt: HostRuntime) -> Result<(), Fail> {
     expect_level(&rt, rt.alloc(), &shelf, &core)
 }
 
-/// No core is made for so many owners and so much room.
+/// No core is made for this many owners and so much room.
 fn expect_no_core(rt: &impl Abort, alloc: Global, owners: u8, room: u32, fault: CoreFault) {
     let answer = Core::new(alloc, &Shelf::empty(), owners, room).err();
     expect_equal(rt, (owners, room), answer, Some(fault));
@@ -210,7 +210,7 @@ fn cores_are_refused_in_order(rt: HostRuntime) {
     expect_no_core(&rt, rt.alloc(), 2, 257, CoreFault::Room);
 }
 
-/// So many owners build the shelf's next level by all events, again and again.
+/// This many owners build the shelf's next level by all events, again and again.
 fn expect_built_by(rt: &impl Abort, alloc: Global, shelf: &Shelf, owners: u8) -> Result<(), Fail> {
     let events = all_events(alloc, owners)?;
     let mut core = Core::new(alloc, shelf, owners, 1)?;

@@ -47,7 +47,7 @@ fn one_part_builds_levels_0_to_13(rt: HostRuntime) -> Result<(), Fail> {
     Ok(())
 }
 
-/// Levels 0 to 8, each built by so many threads together. Level 8 has 18 segments.
+/// Levels 0 to 8, each built by this many threads together. Level 8 has 18 segments.
 fn expect_built_together(
     rt: &(impl Abort + Threads + Sync),
     alloc: Global,

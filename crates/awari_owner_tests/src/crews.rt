@@ -21,7 +21,7 @@ fn two_members_close_level_0(rt: HostRuntime) -> Result<(), Fail> {
     Ok(())
 }
 
-/// Whether a crew of so many, which look so often for a letter, closes the shelf's next level. If it does, the
+/// Whether a crew of this many, which look so often for a letter, closes the shelf's next level. If it does, the
 /// level does not have to be built otherwise.
 fn is_closed_by(
     rt: &impl Threads,

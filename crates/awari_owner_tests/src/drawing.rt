@@ -31,7 +31,7 @@ impl Numbers {
         (self.0 >> 32) % most
     }
 
-    /// An event of one or two of so many owners.
+    /// An event of one or two of this many owners.
     fn event(&mut self, owners: u8) -> Event
         requires { 0 < owners }
     {
@@ -44,7 +44,7 @@ impl Numbers {
         }
     }
 
-    /// So many events.
+    /// This many events.
     pub(crate) fn events(
         &mut self,
         alloc: Global,

@@ -91,7 +91,7 @@ fn close(rt: &impl Abort, part: &mut Part, outboxes: &mut Outboxes, note: Note)
     }
 }
 
-/// The closed parts of so many owners, one of which takes the note.
+/// The closed parts of this many owners, one of which takes the note.
 fn closed_parts(
     rt: &impl Abort,
     alloc: Global,
@@ -113,7 +113,7 @@ fn closed_parts(
     Ok(parts)
 }
 
-/// What is finished of the next level of so many levels, if one of so many owners takes the note.
+/// What is finished of the next level with this many levels, if one of this many owners takes the note.
 fn finished(
     rt: &impl Abort,
     alloc: Global,

@@ -7,7 +7,7 @@ use std::alloc::Global;
 use std::process::Abort;
 use std::test::Fail;
 
-/// The ends are those of so many owners, in the order of their numbers.
+/// The ends are those of this many owners, in the order of their numbers.
 fn expect_ends(rt: &impl Abort, all: &[Ends<Batch>], owners: usize) {
     expect_equal(rt, "owners", all.len(), owners);
     for (number, ends) in all.iter().enumerate() {

@@ -16,17 +16,17 @@ use std::thread::Threads;
 /// What a progress is told, and where it is asked whether the level is still wanted.
 #[derive(Clone, Copy, Debug, PartialEq, Eq)]
 pub(crate) enum Heard {
-    /// A level of so many stones begins, which has so many boards.
+    /// A level with this many stones begins, which has that many boards.
     Begun(usize, usize),
     /// The level is wanted as far as it is asked.
     Asked,
-    /// This gain is open, and so many boards are settled and were spread.
+    /// This gain is open, and this many boards are settled and were spread.
     Settled(usize, usize),
     /// The entries are begun.
     Planned,
 }
 
-/// Keeps what it hears, and wants the level so many times.
+/// Keeps what it hears, and wants the level this many times.
 #[derive(Drop)]
 struct Listener {
     wants: u32,
@@ -68,9 +68,9 @@ impl Progress for Listener {
 pub(crate) enum Builder {
     /// One part.
     Alone,
-    /// So many threads together.
+    /// This many threads together.
     Together(usize),
-    /// So many owners.
+    /// This many owners.
     Owners(u8),
 }
 
@@ -95,7 +95,7 @@ fn built(
     }
 }
 
-/// Builds the shelf's next level while it is wanted so many times. Gives the refusal, and what was heard.
+/// Builds the shelf's next level while it is wanted this many times. Gives the refusal, and what was heard.
 pub(crate) fn listened(
     rt: &(impl Threads + Wait + Sync),
     alloc: Global,

@@ -11,7 +11,7 @@ use std::alloc::Global;
 use std::process::Abort;
 use std::test::Fail;
 
-/// The block of this owner of level 1, one of so many.
+/// The block of this owner of level 1, one of this many.
 fn expect_block(
     rt: &impl Abort,
     alloc: Global,

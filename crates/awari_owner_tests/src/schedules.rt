@@ -43,7 +43,7 @@ struct Task {
     level: Arc<Level>,
 }
 
-/// Draws so many schedules, and compares what each of them ends in.
+/// Draws this many schedules, and compares what each of them ends in.
 fn outcome_of(alloc: Global, count: u32) -> io::Result<Outcome> {
     let tasks = tasks(alloc)?;
     let mut outcome = Outcome {
@@ -89,7 +89,7 @@ fn draw(alloc: Global, tasks: &[Task], schedule: u32, outcome: &mut Outcome) -> 
     Ok(())
 }
 
-/// Counts a schedule of a level of so many stones.
+/// Counts a schedule of a level with this many stones.
 fn count(outcome: &mut Outcome, stones: usize, ended: Option<u64>)
     requires { stones ≤ 4 }
 {

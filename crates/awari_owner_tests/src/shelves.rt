@@ -20,7 +20,7 @@ pub(crate) fn one_level(alloc: Global) -> Result<Shelf, Fail>
     Ok(shelf)
 }
 
-/// The shelf of so many levels.
+/// The shelf with this many levels.
 pub(crate) fn levels_below(alloc: Global, count: u8) -> Result<Shelf, Fail> {
     let mut shelf = Shelf::empty();
     for _level in 0..count {
@@ -30,7 +30,7 @@ pub(crate) fn levels_below(alloc: Global, count: u8) -> Result<Shelf, Fail> {
     Ok(shelf)
 }
 
-/// The shelf has so many levels and this limit.
+/// The shelf has this many levels and this limit.
 pub(crate) fn expect_limit(rt: &impl Abort, shelf: &Shelf, levels: u8, limit: u32) {
     let found = (shelf.levels(), shelf.limit());
     expect_equal(rt, "levels and limit", found, (levels, limit));

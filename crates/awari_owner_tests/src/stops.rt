@@ -18,7 +18,7 @@ const STOPPED: BuildFault = BuildFault::Phase {
     fault: PhaseFault::Stopped,
 };
 
-/// A build of a level that is wanted so many times is refused, once it told this.
+/// A build of a level that is wanted this many times is refused, once it told this.
 fn expect_stopped(
     rt: &(impl Abort + Threads + Wait + Sync),
     alloc: Global,

@@ -68,7 +68,7 @@ fn an_idle_owner_enters_once(rt: HostRuntime) -> Result<(), Fail> {
     Ok(())
 }
 
-/// So many owners of this level, with its stones as the open gain.
+/// This many owners of this level, with its stones as the open gain.
 pub(crate) fn opened_owners<R: Threads + Sync + Abort>(
     rt: &R,
     alloc: Global,
@@ -85,7 +85,7 @@ pub(crate) fn opened_owners<R: Threads + Sync + Abort>(
     Ok(all)
 }
 
-/// In a round of at most so many sweeps, the owner of all boards of level 5 makes this many. At
+/// In a round of at most this many sweeps, the owner of all boards of level 5 makes this many. At
 /// distance 0 are the 323 boards that have ended: 252 where the mover has no stone, and 71 where the
 /// opponent has none and can get none.
 fn expect_sweeps<R: Threads + Wait + Sync + Abort>(

@@ -1,6 +1,6 @@
 //! What builders tell of how far they are, compared with what the finished level says: a board that is
 //! worth a gain is settled at that gain, and spread at its distance. The sizes of levels, and how many
-//! boards are settled in all, are those of docs/LEVELS.md.
+//! boards are settled in all, are those of docs/levels.csv.
 
 use crate::expect::expect_equal;
 use crate::hearing::{Builder, Heard, listened};
@@ -39,7 +39,7 @@ fn tally_of_next(alloc: Global, shelf: &Shelf) -> Result<Tally, Fail> {
     Ok(tally)
 }
 
-/// So many boards more than these.
+/// This many boards more than these.
 fn added(boards: usize, row: &[usize; DISTANCES]) -> usize {
     let mut sum = boards;
     for count in row {
@@ -74,7 +74,7 @@ fn tell_distances(
     Ok(boards)
 }
 
-/// A level of so many stones and boards begins, and is asked for before its scan.
+/// A level with this many stones and boards begins, and is asked for before its scan.
 fn begun(alloc: Global, level: usize, boards: usize) -> Result<Vec<Heard>, AllocError> {
     let mut told = Vec::new(alloc);
     told.push(Heard::Begun(level, boards))?;
@@ -82,7 +82,7 @@ fn begun(alloc: Global, level: usize, boards: usize) -> Result<Vec<Heard>, Alloc
     Ok(told)
 }
 
-/// What one part and threads together tell of a level of so many stones and boards: each gain and
+/// What one part and threads together tell of a level with this many stones and boards: each gain and
 /// distance.
 pub(crate) fn distances_told(
     alloc: Global,
@@ -186,7 +186,7 @@ fn threads_tell_what_the_level_says(rt: HostRuntime) -> Result<(), Fail> {
     Ok(())
 }
 
-/// So many boards are settled in the end.
+/// This many boards are settled in the end.
 fn expect_settled(rt: &impl Abort, told: &[Heard], settled: usize) {
     let mut last = 0;
     for heard in told {
@@ -197,7 +197,7 @@ fn expect_settled(rt: &impl Abort, told: &[Heard], settled: usize) {
     expect_equal(rt, "settled", last, settled);
 }
 
-/// So many owners build the level, and tell of the last round of each gain how many boards are settled.
+/// This many owners build the level, and tell of the last round of each gain how many boards are settled.
 fn expect_gains(
     rt: &(impl Abort + Threads + Wait + Sync),
     alloc: Global,

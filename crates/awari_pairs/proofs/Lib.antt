@@ -1,4 +1,3 @@
 pub mod CellLaws
 pub mod LineLaws
-pub mod ShownLaws
 pub mod SizeLaws

@@ -1,5 +1,5 @@
 -- Lines of numbers of boards, one after the other.
-use Rattle.std.proofs.Common.{◌≡◌, ℕ, ◌+◌, ◌==◌, ◌<◌, Bool, true, false, cond, List, [], ◌∷◌, ◌++◌, Option, ℤ, refl, sym, ◌∙◌, ap, subst, append_assoc, arith}
+use Rattle.std.proofs.Common.{◌≡◌, ℕ, ◌+◌, ◌==◌, ◌<◌, Bool, true, false, cond, Bor, List, [], ◌∷◌, ◌++◌, Option, Some, ℤ, refl, sym, ◌∙◌, ap, subst, append_assoc, arith}
 use Rattle.std.proofs.KnownBytes.{Appends-trans}
 use Rattle.std.proofs.lemmas.Bool.Decides.{nat_tests}
 use Rattle.std.proofs.lemmas.Grind.{flat_map-append}
@@ -8,16 +8,17 @@ use Rattle.std.proofs.lemmas.List.FromFn.{map-range_with_len_more}
 use Rattle.std.specs.Io.KnownBytes.{Appends}
 use Rattle.std.specs.List.{flat_map, range_with_len}
 use Rattle.awari_facts.specs.Sources.{limit_of}
+use Rattle.awari_members.specs.Members.{share_line}
 use Rattle.awari_queries.specs.Boards.{form_of}
 use Rattle.awari_queries.specs.Columns.{AsksForPair}
 use Rattle.awari_queries.specs.declared.boards.Form.{Form}
 use Rattle.awari_queries.specs.declared.columns.Pair.{Pair}
+use Rattle.awari_queries.specs.declared.questions.CountsQuery.{CountsQuery}
 use Rattle.awari_rank.specs.Tuples.{tuples}
 use Rattle.awari_table.specs.declared.images.Image.{Image}
-use Rattle.awari_pairs.specs.Pairs.{AppendsPairs, PrintsPairs, PrintsPairsBy, PrintsPairsSaid, boards_with, cell_line, header_of, pair_lines, pair_text, row_lines, share_line}
+use Rattle.awari_pairs.specs.Pairs.{AppendsPairs, PrintsPairs, PrintsPairsBy, PrintsPairsSaid, boards_with, cell_line, header_of, pair_lines, pair_text, row_lines}
 use Rattle.awari_pairs.specs.Ranges.{number_at, width_of}
 use Rattle.awari_pairs.specs.Tables.{AreCounted}
-use Rattle.awari_pairs.specs.declared.pairs.PairsQuery.{PairsQuery}
 use Rattle.awari_pairs.specs.declared.tables.Asked.{Asked}
 
 range-more : (n : ℕ) → range_with_len 0 (n + 1) ≡ range_with_len 0 n ++ n ∷ []
@@ -88,19 +89,21 @@ cell-line form pair images level row n boards i j before now after so_far is som
 
 -- ---- what was asked for
 
-pub appended : (query : PairsQuery) (pair : Pair) (form : Form) (level : ℕ) (images : List Image) (before after : Option (List ℕ)) → AsksForPair query.by.now pair → form ≡ form_of query.json query.csv
+pub appended : (query : CountsQuery) (by : Bor (List ℕ)) (pair : Pair) (form : Form) (level : ℕ) (images : List Image) (before after : Option (List ℕ)) → query.by ≡ Some by → AsksForPair by.now pair → form ≡ form_of query.json query.csv
     → Appends before after (pair_lines form pair images level (limit_of images level)) → AppendsPairs query level images before after
-appended query pair form level images before after asked is lines = record {
+appended query by pair form level images before after named asked is lines = record {
+  by = by;
+  named = named;
   pair = pair;
   asked = asked;
   lines = subst (λ f. Appends before after (pair_lines f pair images level (limit_of images level))) is lines;
 }
 
-pub printed-verified : (stands : ℕ → Option (Option (List ℕ))) (query : PairsQuery) (before after : Option (List ℕ)) → query.unverified ≡ false → PrintsPairs stands query before after
+pub printed-verified : (stands : ℕ → Option (Option (List ℕ))) (query : CountsQuery) (before after : Option (List ℕ)) → query.unverified ≡ false → PrintsPairs stands query before after
     → PrintsPairsBy query.unverified stands query before after
 printed-verified stands query before after is printed = subst (λ b. PrintsPairsBy b stands query before after) (sym is) printed
 
-pub printed-said : (stands : ℕ → Option (Option (List ℕ))) (query : PairsQuery) (before after : Option (List ℕ)) → query.unverified ≡ true → PrintsPairsSaid stands query before after
+pub printed-said : (stands : ℕ → Option (Option (List ℕ))) (query : CountsQuery) (before after : Option (List ℕ)) → query.unverified ≡ true → PrintsPairsSaid stands query before after
     → PrintsPairsBy query.unverified stands query before after
 printed-said stands query before after is printed = subst (λ b. PrintsPairsBy b stands query before after) (sym is) printed
 

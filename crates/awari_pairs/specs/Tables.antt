@@ -20,7 +20,7 @@ columns_of asked = width_of asked.limit asked.pair.second
 abbrev pub cells_of : Asked → ℕ
 cells_of asked = rows_of asked * columns_of asked
 
--- of so many levels this one is there, and has a board of this rank
+-- of this many levels this one is there, and has a board of this rank
 pub record IsThere (levels level rank : ℕ) : Type 0 where
   pub known : level < levels
   pub few : levels ≤ HIGHEST_LEVEL + 1
@@ -45,7 +45,7 @@ pub record AreCounted (images : List Image) (asked : Asked) (boards : List (List
   pub each : (i j : ℕ) → i < rows_of asked → j < columns_of asked
       → slice_index counts (i * columns_of asked + j) ≡ count_by (has_pair images asked.pair.first asked.pair.second (number_at asked.pair.first i) (number_at asked.pair.second j)) boards
 
--- so many boards of the level are counted
+-- this many boards of the level are counted
 abbrev pub AreCountedTo : List Image → Asked → ℕ → List ℕ → Type 0
 AreCountedTo images asked rank counts = AreCounted images asked (take rank (tuples 12 asked.level)) counts
 
@@ -63,7 +63,7 @@ IsCellAt images asked rank found = IfSome found (HasCell images asked rank)
 pub record AreCellsFrom (images : List Image) (asked : Asked) (rank : ℕ) (found : List (Option ℕ)) : Type 0 where
   pub each : (k : ℕ) → k < length found → IsCellAt images asked (rank + k) (slice_index_or found k None)
 
--- so many boards of a level follow from the segment's first one on
+-- this many boards of a level follow from the segment's first one on
 pub record IsSegmentOf (images : List Image) (segment : Segment) (boards : ℕ) : Type 0 where
   pub known : segment.asked.level < length images
   pub inside : segment.first + boards ≤ size_of segment.asked.level

@@ -22,4 +22,4 @@ mod shown;
 mod tables;
 
 pub use laws::pairs_come_to_the_size;
-pub use pairs::{PairsQuery, run_pairs};
+pub use pairs::run_pairs;

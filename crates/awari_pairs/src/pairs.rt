@@ -16,30 +16,16 @@ use crate::ranges::{number_at, width_of};
 use crate::segments::count_on;
 use crate::shown::{Names, PairShare};
 use crate::tables::{Asked, count_pairs, wrong_limit};
-use awari_answers::{Replies, print, refuse, status_of};
+use awari_answers::{NoAnswer, Replies, print, refuse, status_of};
 use awari_facts::{Source, load_to, open_to, read_limit};
 use awari_folder::{Folder, FolderFault};
-use awari_queries::{Form, NoColumn, Pair, asked_pair, form_of};
+use awari_members::Line;
+use awari_queries::{CountsQuery, Form, Pair, asked_pair, form_of};
 use awari_rank::size;
 use awari_table::Shelf;
 use std::alloc::Global;
 use std::io::Write;
 use std::thread::Threads;
-
-/// Which boards are counted by which columns, in words.
-#[derive(Clone, Copy)]
-pub struct PairsQuery<'a> {
-    /// The level.
-    pub level: Option<u8>,
-    /// The names of two columns with a comma between them.
-    pub by: &'a str,
-    /// Lines of JSON.
-    pub json: bool,
-    /// Lines of CSV below a header, unless JSON is asked for.
-    pub csv: bool,
-    /// Whether files answer that nobody verified.
-    pub unverified: bool,
-}
 
 /// What is printed: the boards of a level by two columns, in a form.
 #[derive(Clone, Copy)]
@@ -76,13 +62,17 @@ fn print_row<W: Write>(counts: &[u32], asked: Asked, row: usize, form: Form, wri
             continue;
         }
         let share = PairShare {
-            form,
             pair: asked.pair,
             first,
             second: number_at(asked.pair.second, column),
             boards,
         };
-        if !print(writer, &share) {
+        let members = share.members();
+        let line = Line {
+            members: &members,
+            form,
+        };
+        if !print(writer, &line) {
             return false;
         }
     }
@@ -128,8 +118,8 @@ fn asked_of(wish: Wish, limit: u32) -> Result<Asked, FolderFault>
 /// as 84 if that is not there.
 fn print_pairs_on<T: Threads + Sync, W: Write>(
     rt: &T,
-    shelf: &Shelf,
     alloc: Global,
+    shelf: &Shelf,
     wish: Wish,
     writer: &mut W,
 ) -> Result<bool, FolderFault>
@@ -142,7 +132,7 @@ fn print_pairs_on<T: Threads + Sync, W: Write>(
         Ok(asked) => asked,
         Err(fault) => return Err(fault),
     };
-    let counts = match count_on(rt, shelf, asked, alloc) {
+    let counts = match count_on(rt, alloc, shelf, asked) {
         Ok(counts) => counts,
         Err(fault) => return Err(fault),
     };
@@ -150,13 +140,13 @@ fn print_pairs_on<T: Threads + Sync, W: Write>(
 }
 
 /// Prints the boards of a level by two columns, by what a file says, and says whether the writer took that.
-/// Condition: so many files were opened that the level's is among them. It takes memory for four bytes a pair
+/// Condition: the level's file is among those that were opened. It takes memory for four bytes a pair
 /// of numbers, and is refused as 84 if that is not there. It is refused as 83 with V7 if the limit is above the
 /// number of boards or a distance is above the limit.
 fn print_pairs_said<F: Folder, W: Write>(
+    alloc: Global,
     levels: u8,
     folder: &mut F,
-    alloc: Global,
     wish: Wish,
     writer: &mut W,
 ) -> Result<bool, FolderFault>
@@ -175,7 +165,7 @@ fn print_pairs_said<F: Folder, W: Write>(
         Ok(asked) => asked,
         Err(fault) => return Err(fault),
     };
-    let counts = match count_pairs(source, folder, asked, alloc) {
+    let counts = match count_pairs(alloc, source, folder, asked) {
         Ok(counts) => counts,
         Err(fault) => return Err(fault),
     };
@@ -189,9 +179,9 @@ fn print_pairs_said<F: Folder, W: Write>(
 /// more are read for each move.
 pub fn run_pairs<T: Threads + Sync, F: Folder, W: Replies>(
     rt: &T,
-    folder: &mut F,
     alloc: Global,
-    query: &PairsQuery<'_>,
+    folder: &mut F,
+    query: &CountsQuery<'_>,
     writer: &mut W,
 ) -> u8
     ensures status { result ≤ 1 }
@@ -199,22 +189,24 @@ pub fn run_pairs<T: Threads + Sync, F: Folder, W: Replies>(
     ensures found { result ≡ 0 → PrintsPairsBy query.now.unverified (F.state folder.old).stands query.now (W.contents writer.old) (W.contents writer.new) }
 {
     let Some(level) = query.level else {
-        return refuse(writer, NoColumn);
+        return refuse(writer, NoAnswer::Column);
     };
-    let pair = match asked_pair(query.by) {
-        Ok(pair) => pair,
-        Err(fault) => return refuse(writer, fault),
+    let Some(by) = query.by else {
+        return refuse(writer, NoAnswer::Column);
+    };
+    let Ok(pair) = asked_pair(by) else {
+        return refuse(writer, NoAnswer::Column);
     };
     let form = form_of(query.json, query.csv);
     let wish = Wish { level, pair, form };
     if query.unverified {
-        return run_pairs_said(folder, alloc, wish, writer);
+        return run_pairs_said(alloc, folder, wish, writer);
     }
-    let shelf = match load_to(rt, folder, alloc, level) {
+    let shelf = match load_to(rt, alloc, folder, level) {
         Ok(shelf) => shelf,
         Err(fault) => return refuse(writer, fault),
     };
-    match print_pairs_on(rt, &shelf, alloc, wish, writer) {
+    match print_pairs_on(rt, alloc, &shelf, wish, writer) {
         Ok(written) => status_of(written),
         Err(fault) => refuse(writer, fault),
     }
@@ -222,8 +214,8 @@ pub fn run_pairs<T: Threads + Sync, F: Folder, W: Replies>(
 
 /// Prints the same by what the files say.
 fn run_pairs_said<F: Folder, W: Replies>(
-    folder: &mut F,
     alloc: Global,
+    folder: &mut F,
     wish: Wish,
     writer: &mut W,
 ) -> u8
@@ -236,7 +228,7 @@ fn run_pairs_said<F: Folder, W: Replies>(
         Ok(opened) => opened,
         Err(fault) => return refuse(writer, fault),
     };
-    match print_pairs_said(opened.levels, folder, alloc, wish, writer) {
+    match print_pairs_said(alloc, opened.levels, folder, wish, writer) {
         Ok(written) => status_of(written),
         Err(fault) => refuse(writer, fault),
     }

@@ -45,7 +45,7 @@ pub(crate) fn place_of(column: Column, limit: u32, number: i64) -> Option<usize>
     Some((number + below) as usize)
 }
 
-/// The number at a place among those that a column may have. Condition: there are so many.
+/// The number at a place among those that a column may have. Condition: there are that many.
 pub(crate) fn number_at(column: Column, place: usize) -> i64
     requires { place < 4294967297 }
     ensures { result ≡ number_at column place }

@@ -29,7 +29,7 @@ struct Segment {
 }
 
 /// The cell of the board of a rank. There is none if a number is none that its column may have. Conditions:
-/// the level is there, and has so many boards; the cells fit in memory.
+/// the level is there, and has that many boards; the cells fit in memory.
 fn cell_on(shelf: &Shelf, asked: Asked, rank: u32) -> Option<usize>
     requires level { asked.level < length shelf.now }
     requires rank { rank < size_of asked.level }
@@ -47,7 +47,7 @@ fn cell_on(shelf: &Shelf, asked: Asked, rank: u32) -> Option<usize>
 }
 
 /// Finds the cells of the boards of a segment, by as many threads as there are processors. Conditions: the
-/// level is there, and has so many boards; the cells fit in memory.
+/// level is there, and has that many boards; the cells fit in memory.
 fn find_cells<T: Threads + Sync>(
     rt: &T,
     shelf: &Shelf,
@@ -117,9 +117,9 @@ fn count_segment<T: Threads + Sync>(
 /// if a distance is above the limit. By the level's own limit none is.
 pub(crate) fn count_on<T: Threads + Sync>(
     rt: &T,
+    alloc: Global,
     shelf: &Shelf,
     asked: Asked,
-    alloc: Global,
 ) -> Result<Vec<u32>, FolderFault>
     requires { asked.level < length shelf.now }
     ensures long { IfOk result (λ counts. vec_len counts ≡ cells_of asked) }
@@ -128,7 +128,7 @@ pub(crate) fn count_on<T: Threads + Sync>(
     // For the proof: there are at most 25 levels.
     let _levels = shelf.levels();
     let boards = size(asked.level);
-    let mut counts = match new_counts(asked, alloc) {
+    let mut counts = match new_counts(alloc, asked) {
         Ok(counts) => counts,
         Err(fault) => return Err(fault),
     };

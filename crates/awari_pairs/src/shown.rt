@@ -1,9 +1,11 @@
-//! The lines of pairs of numbers: with names, with commas, or as JSON objects.
+//! The lines of pairs of numbers.
 
-ghost use Rattle.std.specs.Prelude.{◌≡◌};
-ghost use Rattle.awari_pairs.specs.Pairs.{is_none};
+ghost use Rattle.std.specs.Prelude.{◌≡◌, map};
+ghost use Rattle.awari_members.specs.Members.{said};
+ghost use Rattle.awari_pairs.specs.Pairs.{column_member, is_none, pair_members};
 
-use awari_queries::{Column, Form, Pair};
+use awari_members::{Member, Value};
+use awari_queries::{Column, Pair};
 use std::fmt;
 
 /// Whether the number of a column stands for none.
@@ -16,89 +18,38 @@ fn is_none(column: Column, number: i64) -> bool
     }
 }
 
-/// What stands for no number.
-#[derive(Clone, Copy)]
-struct NoNumber(Form);
-
-impl fmt::Display for NoNumber {
-    ghost use Rattle.std.specs.Prelude.{Some};
-    ghost use Rattle.awari_pairs.specs.Pairs.{none_text};
-
-    ghost output = { λ shown. Some (none_text shown.0) };
-
-    fn fmt<W: fmt::Write>(&self, f: &mut fmt::Formatter<W>) -> fmt::Result {
-        match self.0 {
-            Form::Text => write!(f, "-"),
-            Form::Csv => write!(f, ""),
-            Form::Json => write!(f, "null"),
-        }
+/// The member of a column with this number.
+fn member_of(column: Column, number: i64) -> Member<'static>
+    ensures { said result ≡ column_member column number }
+{
+    if is_none(column, number) {
+        return Member {
+            name: column.name(),
+            value: Value::Missing,
+        };
     }
+    Member::signed(column.name(), number)
 }
 
-/// The number of a column.
-#[derive(Clone, Copy)]
-struct ShownNumber {
-    form: Form,
-    column: Column,
-    number: i64,
-}
-
-impl fmt::Display for ShownNumber {
-    ghost use Rattle.std.specs.Prelude.{Some};
-    ghost use Rattle.awari_pairs.specs.Pairs.{number_text};
-
-    ghost output = { λ shown. Some (number_text shown.form shown.column shown.number) };
-
-    fn fmt<W: fmt::Write>(&self, f: &mut fmt::Formatter<W>) -> fmt::Result {
-        if is_none(self.column, self.number) {
-            return write!(f, "{}", NoNumber(self.form));
-        }
-        write!(f, "{}", self.number)
-    }
-}
-
-/// Two numbers, and how many boards have them. It is printed without its line feed.
+/// Two numbers, and how many boards have them.
 #[derive(Clone, Copy)]
 pub(crate) struct PairShare {
-    pub(crate) form: Form,
     pub(crate) pair: Pair,
     pub(crate) first: i64,
     pub(crate) second: i64,
     pub(crate) boards: u32,
 }
 
-impl fmt::Display for PairShare {
-    ghost use Rattle.std.specs.Prelude.{Some};
-    ghost use Rattle.awari_pairs.specs.Pairs.{pair_text};
-
-    ghost output = { λ share. Some (pair_text share.form share.pair share.first share.second share.boards) };
-
-    fn fmt<W: fmt::Write>(&self, f: &mut fmt::Formatter<W>) -> fmt::Result {
-        let PairShare {
-            form,
-            pair,
-            boards,
-            ..
-        } = *self;
-        let (one, other) = (pair.first.name(), pair.second.name());
-        let first = ShownNumber {
-            form,
-            column: pair.first,
-            number: self.first,
-        };
-        let second = ShownNumber {
-            form,
-            column: pair.second,
-            number: self.second,
-        };
-        match form {
-            Form::Text => write!(f, "{one} {first} {other} {second} boards {boards}"),
-            Form::Csv => write!(f, "{first},{second},{boards}"),
-            Form::Json => write!(
-                f,
-                "{{\"{one}\":{first},\"{other}\":{second},\"boards\":{boards}}}"
-            ),
-        }
+impl PairShare {
+    /// Its numbers, with their names.
+    pub(crate) fn members(&self) -> [Member<'static>; 3]
+        ensures { map said result ≡ pair_members self.now.pair self.now.first self.now.second self.now.boards }
+    {
+        [
+            member_of(self.pair.first, self.first),
+            member_of(self.pair.second, self.second),
+            Member::number("boards", u64::from(self.boards)),
+        ]
     }
 }
 

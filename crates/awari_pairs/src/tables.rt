@@ -30,7 +30,7 @@ pub(crate) struct Asked {
 }
 
 /// No board in any cell. It takes memory for four bytes a cell, and is refused as 84 if that is not there.
-pub(crate) fn new_counts(asked: Asked, alloc: Global) -> Result<Vec<u32>, FolderFault>
+pub(crate) fn new_counts(alloc: Global, asked: Asked) -> Result<Vec<u32>, FolderFault>
     ensures long { IfOk result (λ counts. vec_len counts ≡ cells_of asked) }
     ensures zeros { IfOk result (λ counts. (k : ℕ) → slice_index counts.items k ≡ 0) }
 {
@@ -59,7 +59,7 @@ pub(crate) fn cell_at(asked: Asked, first: i64, second: i64) -> Option<usize>
 }
 
 /// The cell of a board. It is refused as 83 with V7 if a number is none that its column may have, as a
-/// distance above the limit is. Conditions: the level is there, and has so many boards; the cells fit in
+/// distance above the limit is. Conditions: the level is there, and has that many boards; the cells fit in
 /// memory.
 fn cell_of<F: Folder>(
     source: Source<'_>,
@@ -102,10 +102,10 @@ pub(crate) fn count(counts: &mut Vec<u32>, cell: usize)
 /// four bytes a cell, and is refused as 84 if that is not there. It is refused as 83 with V7 if a distance is
 /// above the limit.
 pub(crate) fn count_pairs<F: Folder>(
+    alloc: Global,
     source: Source<'_>,
     folder: &mut F,
     asked: Asked,
-    alloc: Global,
 ) -> Result<Vec<u32>, FolderFault>
     requires level { asked.level < levels_of source }
     requires few { levels_of source ≤ HIGHEST_LEVEL + 1 }
@@ -115,7 +115,7 @@ pub(crate) fn count_pairs<F: Folder>(
     ensures same { Unchanged (F.state folder.old) (F.state folder.new) }
 {
     let level = asked.level;
-    let mut counts = match new_counts(asked, alloc) {
+    let mut counts = match new_counts(alloc, asked) {
         Ok(counts) => counts,
         Err(fault) => return Err(fault),
     };

@@ -132,7 +132,7 @@ take-behind by x n (y ∷ ys) order full behind =
     ∙ take-append-le n (y ∷ ys) (x ∷ []) (omega (arith, full))
     ∙ take_all n (y ∷ ys) (omega (arith, full))
 
--- one more that comes behind so many
+-- one more that comes behind this many
 pub first-behind : {A : Type 0} (n : ℕ) (by : A → ℤ) (xs : List A) (x : A) (held : List A) → held ≡ first_by n by xs → n ≤ length held
     → ((d : A) → 0 < length held → int_lt (by x) (by (get_or held (length held - 1) d)) ≡ false) → held ≡ first_by n by (xs ++ x ∷ [])
 first-behind n by xs x held is full behind =

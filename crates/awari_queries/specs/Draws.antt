@@ -6,7 +6,7 @@ use Rattle.awari_queries.specs.declared.draws.Draw.{Draw}
 abbrev pub next_number : ℕ → ℕ
 next_number s = (s * 6364136223846793005 + 1442695040888963407) % 18446744073709551616
 
--- Of those that are left, so many are wanted. The next one is drawn with that chance.
+-- Of those that are left, this many are wanted. The next one is drawn with that chance.
 abbrev pub is_drawn : Draw → Bool
 is_drawn d = nat_lt (next_number d.seed / 4294967296 % max 1 d.left) d.wanted
 
@@ -24,7 +24,7 @@ abbrev pub taken : {A : Type 0} → Option Draw → List A → List A
 taken None xs = xs
 taken (Some d) xs = sample d xs
 
--- how a sample of so many is drawn from so many that are left; 0 is no sample
+-- how a sample of this many is drawn from this many that are left; 0 is no sample
 abbrev pub draw_of : ℕ → ℕ → ℕ → Option Draw
 draw_of wanted seed left = if wanted == 0 then None else Some (record { seed = seed; wanted = wanted; left = left })
 

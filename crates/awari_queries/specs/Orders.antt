@@ -9,7 +9,7 @@ use Rattle.awari_queries.specs.declared.orders.Order.{Order}
 abbrev pub word_of : Order → List ℕ
 word_of order = if order.descending then 45 ∷ name_of order.by else name_of order.by
 
--- the word names the order, of so many
+-- the word names the order, of this many
 pub record IsOrder (word : List ℕ) (most : ℕ) (order : Order) : Type 0 where
   pub names : word ≡ word_of order
   pub of_most : order.most ≡ most

@@ -20,15 +20,15 @@ pub struct BoardsQuery<'a> {
     pub running: bool,
     /// Those of the greatest distance alone, among those that have the rest.
     pub farthest: bool,
-    /// Each so many-th of them; 0 counts as 1.
+    /// One in this many of them; 0 counts as 1.
     pub every: u32,
-    /// So many of them, drawn by chance; 0 is all.
+    /// This many of them, drawn by chance; 0 is all.
     pub random: u32,
     /// The number that decides which are drawn.
     pub seed: u32,
     /// The column by which the first ones are found, with `-` before it for the greatest first.
     pub sort: Option<&'a str>,
-    /// So many of the first ones; 0 is all.
+    /// This many of the first ones; 0 is all.
     pub most: u32,
     /// Whether each line has the number of legal moves.
     pub with_moves: bool,

@@ -3,8 +3,6 @@
 ghost use Rattle.std.specs.Prelude.{◌≡◌, IfOk, IfSome, IsNone, OnErr};
 ghost use Rattle.awari_queries.specs.Columns.{AsksForNoPair, AsksForPair, IsCountedName, name_of};
 
-use std::fmt;
-
 /// A number that is known of each board.
 #[derive(Clone, Copy, Debug, PartialEq, Eq)]
 pub enum Column {
@@ -41,20 +39,10 @@ impl Column {
     }
 }
 
-/// 96: what is asked for is no column, or no two that make a table, or it is not said how many boards are
-/// to be sorted. It is printed as its number and its name.
+/// What is asked for is no column, or no two that make a table, or it is not said how many boards are to be
+/// sorted.
 #[derive(Clone, Copy, Debug, PartialEq, Eq)]
 pub struct NoColumn;
-
-impl fmt::Display for NoColumn {
-    ghost use Rattle.std.specs.Prelude.{Some, codes};
-
-    ghost output = { λ _. Some (codes "96 Column") };
-
-    fn fmt<W: fmt::Write>(&self, f: &mut fmt::Formatter<W>) -> fmt::Result {
-        write!(f, "96 Column")
-    }
-}
 
 /// The column that the text names.
 pub(crate) fn column_of(text: &str) -> Option<Column>

@@ -24,7 +24,7 @@ fn next_number(number: u64) -> u64
         .wrapping_add(1442695040888963407)
 }
 
-/// How a sample of so many is drawn from so many that are left; 0 is no sample.
+/// How a sample of this many is drawn from this many that are left; 0 is no sample.
 pub fn draw_of(wanted: u32, seed: u64, left: u32) -> Option<Draw>
     ensures { result ≡ draw_of wanted seed left }
 {

@@ -1,5 +1,6 @@
-//! What is asked of the boards of a level, in words: spans of numbers, the order in which they come, and what
-//! else a board has to have. Words of a command name it, and `boards` answers it. Nothing here looks at a level.
+//! What is asked of the levels in a folder, in words. Of the boards of a level: spans of numbers, the order in
+//! which they come, and what else a board has to have. Words of a command name it, and the commands that read
+//! answer it. Nothing here looks at a level.
 //!
 //! Whether a number that a board may have is in a span, in `crates/awari_queries/src/spans.rt`:
 //!
@@ -18,6 +19,7 @@ mod columns;
 mod draws;
 mod holding;
 mod orders;
+mod questions;
 mod spans;
 
 pub use boards::{BoardSpans, BoardsQuery, Form, Spans, asked_spans, form_of};
@@ -25,4 +27,7 @@ pub use columns::{Column, NoColumn, Pair, asked_pair};
 pub use draws::{Draw, draw_of, is_taken, samples_are_as_large_as_wanted};
 pub use holding::{Held, hold};
 pub use orders::{Order, asked_order, key_of};
+pub use questions::{
+    AskQuery, CountsQuery, LineQuery, MovesQuery, ServeQuery, TextQuery, VerifyQuery,
+};
 pub use spans::{NoSpan, Span, has, is_in};

@@ -12,11 +12,11 @@ pub struct Order {
     pub by: Column,
     /// Whether the greatest comes first.
     pub descending: bool,
-    /// So many of the first ones.
+    /// This many of the first ones.
     pub most: u32,
 }
 
-/// The order that a word names, for so many boards: a column's name, or `-` and a column's name.
+/// The order that a word names, for this many boards: a column's name, or `-` and a column's name.
 fn order_of(word: &str, most: u32) -> Option<Order>
     ensures some { IfSome result (IsOrder word.now most) }
     ensures none { IsNone result → (order : Order) → IsOrder word.now most order → ⊥ }

@@ -3,8 +3,6 @@
 ghost use Rattle.std.specs.Prelude.{◌≡◌, ◌≤ℤ◌, IfOk, IfSome, IsNone, OnErr, ℤ};
 ghost use Rattle.awari_queries.specs.Spans.{AsksFor, AsksForNone, IsEnd, IsRange, IsSpan, SpellsNumber, has, is_in};
 
-use std::fmt;
-
 /// The numbers from `low` to `high`, both of them too.
 #[derive(Clone, Copy, Debug, PartialEq, Eq)]
 pub struct Span {
@@ -34,19 +32,9 @@ pub fn has(span: Option<Span>, number: Option<u8>) -> bool
     }
 }
 
-/// 95: what is asked for is no span of numbers. It is printed as its number and its name.
+/// What is asked for is no span of numbers.
 #[derive(Clone, Copy, Debug, PartialEq, Eq)]
 pub struct NoSpan;
-
-impl fmt::Display for NoSpan {
-    ghost use Rattle.std.specs.Prelude.{Some, codes};
-
-    ghost output = { λ _. Some (codes "95 Span") };
-
-    fn fmt<W: fmt::Write>(&self, f: &mut fmt::Formatter<W>) -> fmt::Result {
-        write!(f, "95 Span")
-    }
-}
 
 /// The number that the text spells.
 fn number_of(text: &str) -> Option<i64>

@@ -16,7 +16,8 @@ use Rattle.awari_table.proofs.ShelfLemmas.{take-read}
 use Rattle.awari_facts.proofs.SourceLaws.{image_of}
 use Rattle.awari_questions.specs.Numbers.{AreNumbersOf}
 use Rattle.awari_questions.specs.declared.counts.Numbers.{Numbers}
-use Rattle.awari_questions.specs.Counts.{boards_of_distance, boards_of_value, count_lines, distance_lines, share_line, shown_distance, shown_level, shown_levels, shown_told, shown_value, value_at, value_lines}
+use Rattle.awari_members.specs.Members.{share_line}
+use Rattle.awari_questions.specs.Counts.{boards_of_distance, boards_of_value, count_lines, distance_lines, shown_distance, shown_level, shown_levels, shown_told, shown_value, value_at, value_lines}
 
 range-more : (n : ℕ) → range_with_len 0 (n + 1) ≡ range_with_len 0 n ++ n ∷ []
 range-more n = sym (map-id (range_with_len 0 (n + 1))) ∙ map-range_with_len_more (λ k. k) 0 n n (omega arith) ∙ ap (λ xs. xs ++ n ∷ []) (map-id (range_with_len 0 n))

@@ -7,6 +7,5 @@ pub mod ShareLaws
 pub mod SourceLaws
 pub mod TallyLaws
 pub mod CountLaws
-pub mod CountJsonLaws
 pub mod WalkLaws
 pub mod WantedLaws

@@ -3,14 +3,14 @@ use Rattle.std.proofs.Common.{◌≡◌, ℕ, zero, suc, ◌+◌, ◌^◌, ◌<�
 use mir.Val.{bool_byte}
 use Rattle.std.proofs.lemmas.Bool.{false≢true}
 use Rattle.std.specs.Option.{is_some}
+use Rattle.awari_answers.specs.declared.asked.NoAnswer.{NoAnswer}
+use Rattle.awari_answers.specs.declared.asked.NoAnswer.TheVariants.{Memory, Overflow}
 use Rattle.awari_board.proofs.Legal.{ended_is, legal_is}
 use Rattle.awari_board.specs.Rules.{IsLegal, IsMove, captured, next_board}
 use Rattle.awari_board.specs.Tests.{is_ended, is_legal}
 use Rattle.awari_rank.proofs.Counting.{total-zero, total-add-one, total-grows}
 use Rattle.awari_rank.specs.Tuples.{total}
 use Rattle.awari_questions.specs.Plays.{AreCounts, IsUncounted, by_move, one, one_if_captures, one_if_ended, over_plays}
-use Rattle.awari_questions.specs.declared.counting.PlaysFault.{PlaysFault}
-use Rattle.awari_questions.specs.declared.counting.PlaysFault.TheVariants.{Board, Overflow, Memory}
 use Rattle.awari_questions.specs.declared.sums.PlayCounts.{PlayCounts}
 
 by_move-legal : (number : ℕ → List ℕ → ℕ) (board next : List ℕ) (x c : ℕ) → IsMove board x c next → by_move number board x ≡ number c next
@@ -133,12 +133,12 @@ counting-bound n plies before board next pit c most counts so_far move is inside
     omega (arith, large, so_far.plays, up, total-add-one (by_move (over_plays one n) board) pit, by_move-legal (over_plays one n) board next pit c move, over_plays-pred one n plies before board is)
 
 -- why the plays after one more move are not counted holds of all of them
-pub uncounted-on : (n plies before : ℕ) (board next : List ℕ) (pit c : ℕ) (counts : PlayCounts) (fault : PlaysFault) → Counting n board pit counts → IsMove board pit c next → plies ≡ suc n
+pub uncounted-on : (n plies before : ℕ) (board next : List ℕ) (pit c : ℕ) (counts : PlayCounts) (fault : NoAnswer) → Counting n board pit counts → IsMove board pit c next → plies ≡ suc n
     → pit < 6 → IsUncounted n c next fault → IsUncounted plies before board fault
-uncounted-on n plies before board next pit c counts (Board fault) so_far move is inside none = none
 uncounted-on n plies before board next pit c counts Overflow so_far move is inside large =
     counting-bound n plies before board next pit c (2 ^ 64) counts so_far move is inside (omega (arith, large))
 uncounted-on n plies before board next pit c counts Memory so_far move is inside out = out
+uncounted-on n plies before board next pit c counts other so_far move is inside none = none
 
 -- a test as a number
 pub byte-cond : (b : Bool) → bool_byte b ≡ cond b 1 0

@@ -1,9 +1,11 @@
 -- The commands `boards` and `text --boards`: what is printed of the boards of a level.
-use Rattle.std.specs.Prelude.{◌≡◌, ℕ, max, Bool, true, false, if◌then◌else◌, List, ◌++◌, ◌∷◌, [], length, codes, Option, Some, None}
+use Rattle.std.specs.Prelude.{◌≡◌, ℕ, max, Bool, true, false, if◌then◌else◌, List, ◌++◌, ◌∷◌, [], length, Option, Some, None}
 use Rattle.std.specs.Fmt.{decimal}
 use Rattle.std.specs.Io.KnownBytes.{Appends}
 use Rattle.std.specs.List.{flat_map, range_with_len}
 use Rattle.awari_answers.specs.Asked.{AreLevelsTo}
+use Rattle.awari_answers.specs.declared.asked.NoAnswer.{NoAnswer}
+use Rattle.awari_answers.specs.declared.asked.NoAnswer.TheVariants.{Span, Column}
 use Rattle.awari_rank.specs.Tuples.{tuples}
 use Rattle.awari_table.specs.Images.{entry_of}
 use Rattle.awari_table.specs.declared.TheConstants.{HIGHEST_LEVEL}
@@ -15,8 +17,6 @@ use Rattle.awari_queries.specs.Boards.{AreAskedFor, AsksForNoSpans, form_of}
 use Rattle.awari_queries.specs.Orders.{AsksForNoOrder, AsksForOrder}
 use Rattle.awari_queries.specs.declared.boards.BoardsQuery.{BoardsQuery}
 use Rattle.awari_queries.specs.declared.boards.Form.TheVariants.{Text}
-use Rattle.awari_questions.specs.declared.boards.QueryFault.{QueryFault}
-use Rattle.awari_questions.specs.declared.boards.QueryFault.TheVariants.{Span, Column}
 use Rattle.awari_questions.specs.declared.wanted.Wanted.{Wanted}
 
 -- the boards that are asked for; each 0th counts as each
@@ -36,14 +36,10 @@ pub record IsWanted (query : BoardsQuery) (wanted : Wanted) : Type 0 where
   pub form : wanted.form ≡ form_of query.json query.csv
 
 -- one of the words is no span, or there is no order as it is asked for
-abbrev pub IsRefused : BoardsQuery → QueryFault → Type 0
-IsRefused query (Span fault) = AsksForNoSpans query.spans
-IsRefused query (Column fault) = AsksForNoOrder query.sort query.most
-
--- the fault inside it
-abbrev pub query_fault_text : QueryFault → List ℕ
-query_fault_text (Span fault) = codes "95 Span"
-query_fault_text (Column fault) = codes "96 Column"
+abbrev pub IsRefused : BoardsQuery → NoAnswer → Type 0
+IsRefused query Span = AsksForNoSpans query.spans
+IsRefused query Column = AsksForNoOrder query.sort query.most
+IsRefused query other = ⊥
 
 -- how many boards of the level are wanted, or a line for each of them
 unfoldable pub wanted_text : List Image → ℕ → Wanted → List ℕ
@@ -73,7 +69,7 @@ abbrev pub PrintsBoardsBy : Bool → (ℕ → Option (Option (List ℕ))) → Bo
 PrintsBoardsBy false = PrintsBoards
 PrintsBoardsBy true = PrintsBoardsSaid
 
--- a board, its entry, and a line feed (10), for each board of a level: `tuples 12 level` are the boards of so many stones in
+-- a board, its entry, and a line feed (10), for each board of a level: `tuples 12 level` are the boards with this many stones in
 -- lexicographic order
 unfoldable pub level_lines : List Image → ℕ → List ℕ
 level_lines images level = flat_map (λ board. stem_of Text board (entry_of images board) ++ 10 ∷ []) (tuples 12 level)

@@ -1,16 +1,15 @@
 -- The command `counts`: how many boards of a level have each value and each distance, and what is printed of that.
-use Rattle.std.specs.Prelude.{◌≡◌, ℕ, ◌+◌, ◌==◌, if◌then◌else◌, Bool, true, false, List, length, ◌++◌, ◌∷◌, [], count_by, slice_get, codes, ℤ, pos, ◌-ℤ◌, Option, Some, None, IsSomeAnd}
-use Rattle.std.specs.Fmt.{decimal, signed_decimal}
+use Rattle.std.specs.Prelude.{◌≡◌, ℕ, ◌+◌, ◌==◌, Bool, true, false, List, length, ◌++◌, ◌∷◌, [], count_by, slice_get, codes, ℤ, pos, ◌-ℤ◌, Option, Some, None, IsSomeAnd}
 use Rattle.std.specs.Io.KnownBytes.{Appends}
 use Rattle.std.specs.List.{flat_map, range_with_len}
 use Rattle.std.specs.Ordering.{int_eq}
 use Rattle.awari_answers.specs.Asked.{AreLevelsTo}
-use Rattle.awari_answers.specs.LevelLines.{told_text}
+use Rattle.awari_answers.specs.LevelLines.{level_members}
 use Rattle.awari_answers.specs.declared.telling.LevelLine.{LevelLine}
-use Rattle.awari_play.specs.Json.{member, object}
+use Rattle.awari_members.specs.Members.{line_text, number, share_line, signed}
+use Rattle.awari_queries.specs.Boards.{form_of}
 use Rattle.awari_table.specs.Images.{even_boards, lost_boards, won_boards}
 use Rattle.awari_table.specs.declared.TheConstants.{HIGHEST_LEVEL}
-use Rattle.awari_table.specs.declared.images.Counts.{Counts}
 use Rattle.awari_table.specs.declared.images.Entry.{Entry}
 use Rattle.awari_table.specs.declared.images.Image.{Image}
 use Rattle.awari_facts.specs.Loads.{HasLevel}
@@ -28,28 +27,15 @@ abbrev pub value_at : ℕ → ℤ
 value_at place = pos place -ℤ pos 128
 
 -- how many boards have a value, and a distance: as a line, or as JSON
-unfoldable pub value_json : ℤ → ℕ → List ℕ
-value_json value boards = object (member (codes "value") (signed_decimal value) ∷ member (codes "boards") (decimal boards) ∷ [])
+unfoldable pub shown_value : Bool → ℤ → ℕ → List ℕ
+shown_value json value boards = line_text (form_of json false) (signed (codes "value") value ∷ number (codes "boards") boards ∷ [])
 
-unfoldable pub distance_json : ℕ → ℕ → List ℕ
-distance_json distance boards = object (member (codes "distance") (decimal distance) ∷ member (codes "boards") (decimal boards) ∷ [])
-
-abbrev pub shown_value : Bool → ℤ → ℕ → List ℕ
-shown_value true value boards = value_json value boards
-shown_value false value boards = codes "value " ++ signed_decimal value ++ codes " boards " ++ decimal boards
-
-abbrev pub shown_distance : Bool → ℕ → ℕ → List ℕ
-shown_distance true distance boards = distance_json distance boards
-shown_distance false distance boards = codes "distance " ++ decimal distance ++ codes " boards " ++ decimal boards
+unfoldable pub shown_distance : Bool → ℕ → ℕ → List ℕ
+shown_distance json distance boards = line_text (form_of json false) (number (codes "distance") distance ∷ number (codes "boards") boards ∷ [])
 
 -- what is told of a level, likewise
-unfoldable pub told_json : LevelLine → List ℕ
-told_json told = object (member (codes "level") (decimal told.level) ∷ member (codes "boards") (decimal told.boards) ∷ member (codes "won") (decimal told.counts.won)
-    ∷ member (codes "even") (decimal told.counts.even) ∷ member (codes "lost") (decimal told.counts.lost) ∷ member (codes "limit") (decimal told.limit) ∷ [])
-
 abbrev pub shown_told : Bool → LevelLine → List ℕ
-shown_told true told = told_json told
-shown_told false told = told_text told
+shown_told json told = line_text (form_of json false) (level_members told)
 
 unfoldable pub shown_level : Bool → Image → List ℕ
 shown_level json image = shown_told json (record {
@@ -61,10 +47,6 @@ shown_level json image = shown_told json (record {
 
 abbrev pub shown_levels : Bool → List Image → List ℕ
 shown_levels json images = flat_map (λ image. shown_level json image ++ 10 ∷ []) images
-
--- the line of so many boards, if there are any
-abbrev pub share_line : (ℕ → List ℕ) → ℕ → List ℕ
-share_line shown boards = if boards == 0 then [] else shown boards ++ 10 ∷ []
 
 -- a line for each value that a board has, ascending
 unfoldable pub value_lines : Bool → List Entry → List ℕ
@@ -99,7 +81,3 @@ PrintsCountsSaid json stands (Some number) before after = IsSaidOf number stands
 abbrev pub PrintsCountsBy : Bool → Bool → (ℕ → Option (Option (List ℕ))) → Option ℕ → Option (List ℕ) → Option (List ℕ) → Type 0
 PrintsCountsBy false = PrintsCounts
 PrintsCountsBy true = PrintsCountsSaid
-
--- Shares within such an object. Private functions alone go by this: no public contract does.
-abbrev pub shares_json : Counts → List ℕ
-shares_json counts = codes "\"won\":" ++ (decimal counts.won ++ (codes ",\"even\":" ++ (decimal counts.even ++ (codes ",\"lost\":" ++ decimal counts.lost))))

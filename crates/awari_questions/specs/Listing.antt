@@ -90,7 +90,7 @@ AppendsLines wanted images boards before after = Appends before after (header_of
 unfoldable pub fits : Spans → Entry → Bool
 fits spans e = is_in spans.value e.value && (is_in spans.distance (pos e.dist) && has spans.plan e.plan)
 
--- a board of so many legal moves has ended or has not, if that is asked for
+-- a board with this many legal moves has ended or has not, if that is asked for
 abbrev pub is_of_kind : Wanted → ℕ → Bool
 is_of_kind wanted moves = not (wanted.ended && nat_lt 0 moves) && not (wanted.running && moves == 0)
 
@@ -125,7 +125,7 @@ key_if wanted images board = if is_within wanted images board then Some (sort_ke
 abbrev pub farthest_among : Wanted → List Image → List (List ℕ) → ℕ
 farthest_among wanted images boards = greatest_dist (map (entry_of images) (filter (is_within wanted images) boards))
 
--- That of the boards of a level, if the farthest are asked for: `tuples 12 level` are the boards of so many stones in
+-- That of the boards of a level, if the farthest are asked for: `tuples 12 level` are the boards with this many stones in
 -- lexicographic order.
 unfoldable pub farthest_of : Wanted → List Image → ℕ → ℕ
 farthest_of wanted images level = if wanted.farthest then farthest_among wanted images (tuples 12 level) else 0
@@ -134,7 +134,7 @@ farthest_of wanted images level = if wanted.farthest then farthest_among wanted 
 unfoldable pub passes : Wanted → ℕ → List Image → List ℕ → Bool
 passes wanted farthest images board = is_within wanted images board && (not wanted.farthest || (entry_of images board).dist == farthest)
 
--- each k-th of a list, where so many came before it
+-- each k-th of a list, where this many came before it
 abbrev pub each : {A : Type 0} → ℕ → ℕ → List A → List A
 each k before [] = []
 each k before (x ∷ xs) = if (before + 1) % k == 0 then x ∷ each k (before + 1) xs else each k (before + 1) xs

@@ -2,15 +2,14 @@
 use Rattle.std.specs.Prelude.{◌≡◌, ℕ, ◌<◌, ◌≤◌, List, ◌++◌, ◌∷◌, [], sum, codes, Option}
 use Rattle.std.specs.Fmt.{decimal}
 use Rattle.std.specs.Io.KnownBytes.{Appends}
-use Rattle.awari_board.specs.BoardFault.{IsFaulty, fault_text as board_fault_text}
+use Rattle.awari_board.specs.BoardFault.{IsFaulty}
 use Rattle.awari_board.specs.Rules.{IsBoard}
 use Rattle.awari_board.specs.Text.{text_of}
 use Rattle.awari_rank.specs.Rank.{rank_of, size_of}
-use Rattle.awari_table.specs.NotYet.{fault_text as not_yet_text}
 use Rattle.awari_table.specs.declared.TheConstants.{HIGHEST_LEVEL}
+use Rattle.awari_answers.specs.declared.asked.NoAnswer.{NoAnswer}
+use Rattle.awari_answers.specs.declared.asked.NoAnswer.TheVariants.{Board, NotYet, NoRank}
 use Rattle.awari_questions.specs.declared.places.Place.{Place}
-use Rattle.awari_questions.specs.declared.places.PlaceFault.{PlaceFault}
-use Rattle.awari_questions.specs.declared.places.PlaceFault.TheVariants.{Board, NotYet, NoRank}
 
 -- the text spells a board of this level and rank
 pub record IsPlaceOf (text : List ℕ) (place : Place) : Type 0 where
@@ -29,10 +28,10 @@ pub record IsAboveHighest (text : List ℕ) : Type 0 where
   pub high : HIGHEST_LEVEL < sum board
 
 -- the fault of the text, or where it is that of a board, that it has too many stones
-abbrev pub IsNoPlace : List ℕ → PlaceFault → Type 0
+abbrev pub IsNoPlace : List ℕ → NoAnswer → Type 0
 IsNoPlace text (Board fault) = IsFaulty text fault
 IsNoPlace text (NotYet fault) = IsAboveHighest text × (fault.levels ≡ 25)
-IsNoPlace text (NoRank boards) = ⊥
+IsNoPlace text other = ⊥
 
 -- the board of this level and rank
 pub record IsBoardAt (level rank : ℕ) (board : List ℕ) : Type 0 where
@@ -41,20 +40,14 @@ pub record IsBoardAt (level rank : ℕ) (board : List ℕ) : Type 0 where
   pub stones : sum board ≡ level
   pub ranked : rank_of board ≡ rank
 
--- the level is above the highest, or has not so many boards
-abbrev pub IsNoBoard : ℕ → ℕ → PlaceFault → Type 0
-IsNoBoard level rank (Board fault) = ⊥
+-- the level is above the highest, or has fewer boards
+abbrev pub IsNoBoard : ℕ → ℕ → NoAnswer → Type 0
 IsNoBoard level rank (NotYet fault) = (HIGHEST_LEVEL < level) × (fault.levels ≡ 25)
 IsNoBoard level rank (NoRank boards) = (level ≤ HIGHEST_LEVEL) × (boards ≡ size_of level) × (boards ≤ rank)
+IsNoBoard level rank other = ⊥
 
 abbrev pub place_text : Place → List ℕ
 place_text place = decimal place.level ++ codes " " ++ decimal place.rank
-
--- the fault inside it, or its number, its name, and its field with its name
-abbrev pub place_fault_text : PlaceFault → List ℕ
-place_fault_text (Board fault) = board_fault_text fault
-place_fault_text (NotYet fault) = not_yet_text fault
-place_fault_text (NoRank boards) = codes "93 NoRank boards " ++ decimal boards
 
 -- Where it is known what the writer holds, what was written is the place of the board that the text spells, and the line feed.
 abbrev pub PrintsPlace : List ℕ → Option (List ℕ) → Option (List ℕ) → Type 0

@@ -3,14 +3,14 @@
 use Rattle.std.specs.Prelude.{◌≡◌, ℕ, ◌≤◌, ◌^◌, nat_lt, if◌then◌else◌, zero, suc, List, ◌++◌, ◌∷◌, [], codes, Option}
 use Rattle.std.specs.Fmt.{decimal}
 use Rattle.std.specs.Io.KnownBytes.{Appends}
-use Rattle.awari_board.specs.BoardFault.{IsFaulty, fault_text as board_fault_text}
+use Rattle.awari_answers.specs.declared.asked.NoAnswer.{NoAnswer}
+use Rattle.awari_answers.specs.declared.asked.NoAnswer.TheVariants.{Board, Memory, Overflow}
+use Rattle.awari_board.specs.BoardFault.{IsFaulty}
 use Rattle.awari_board.specs.Rules.{IsBoard, captured, next_board}
 use Rattle.awari_board.specs.Tests.{is_ended, is_legal}
 use Rattle.awari_board.specs.Text.{text_of}
 use Rattle.awari_rank.specs.Tuples.{total}
 use Rattle.awari_questions.specs.declared.sums.PlayCounts.{PlayCounts}
-use Rattle.awari_questions.specs.declared.counting.PlaysFault.{PlaysFault}
-use Rattle.awari_questions.specs.declared.counting.PlaysFault.TheVariants.{Board, Overflow, Memory}
 
 -- a number of what the move from pit x captures and of the board that it leaves; 0 where it is not legal
 unfoldable pub by_move : (ℕ → List ℕ → ℕ) → List ℕ → ℕ → ℕ
@@ -40,30 +40,25 @@ pub record AreCounts (n before : ℕ) (board : List ℕ) (counts : PlayCounts) :
   pub captures : counts.captures ≡ over_plays one_if_captures n before board
   pub ends : counts.ends ≡ over_plays one_if_ended n before board
 
--- the text spells a board with so many plays
+-- the text spells a board with this many plays
 abbrev pub IsCounted : List ℕ → ℕ → PlayCounts → Type 0
 IsCounted text n counts = (board : List ℕ) × IsBoard board × (text ≡ text_of board) × AreCounts n 0 board counts
 
 -- There are too many plays of a board for 64 bits, or memory ran out.
-abbrev pub IsUncounted : ℕ → ℕ → List ℕ → PlaysFault → Type 0
-IsUncounted n before board (Board fault) = ⊥
+abbrev pub IsUncounted : ℕ → ℕ → List ℕ → NoAnswer → Type 0
 IsUncounted n before board Overflow = 2 ^ 64 ≤ over_plays one n before board
 IsUncounted n before board Memory = Unit {0}
+IsUncounted n before board other = ⊥
 
 -- the fault of the text, or where it is that of a board, why its plays are not counted
-abbrev pub IsNotCounted : List ℕ → ℕ → PlaysFault → Type 0
+abbrev pub IsNotCounted : List ℕ → ℕ → NoAnswer → Type 0
 IsNotCounted text n (Board fault) = IsFaulty text fault
 IsNotCounted text n Overflow = (board : List ℕ) × IsBoard board × (text ≡ text_of board) × IsUncounted n 0 board Overflow
 IsNotCounted text n Memory = (board : List ℕ) × IsBoard board × (text ≡ text_of board)
+IsNotCounted text n other = ⊥
 
 abbrev pub counts_text : PlayCounts → List ℕ
 counts_text counts = codes "plays " ++ decimal counts.plays ++ codes " captures " ++ decimal counts.captures ++ codes " ends " ++ decimal counts.ends
-
--- the fault inside it, or its number and its name
-abbrev pub plays_fault_text : PlaysFault → List ℕ
-plays_fault_text (Board fault) = board_fault_text fault
-plays_fault_text Overflow = codes "94 Overflow"
-plays_fault_text Memory = codes "84 Memory"
 
 -- Where it is known what the writer holds, what was written are the counts of plays of n plies from the board that the text spells,
 -- and the line feed.

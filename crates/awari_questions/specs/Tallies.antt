@@ -39,7 +39,7 @@ pub record IsTallyOf (limit : ℕ) (entries : List Entry) (tally : Tally) : Type
 abbrev pub AreEntriesOf : List Image → ℕ → List Entry → Type 0
 AreEntriesOf images level entries = IsSomeAnd (slice_get images level) (λ image. (image.level ≡ level) × (image.entries ≡ entries))
 
--- so many entries are counted, and those are the level's, by the shelf or by the files
+-- this many entries are counted, and those are the level's, by the shelf or by the files
 pub record IsTallied (source : Source) (stands : ℕ → Option (Option (List ℕ))) (level limit : ℕ) (tally : Tally) : Type 0 where
   pub entries : List Entry
   pub many : length entries ≡ size_of level

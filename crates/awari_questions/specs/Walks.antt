@@ -20,7 +20,7 @@ pub record IsChoice (wanted : Wanted) (images : List Image) (level : ℕ) (choic
   pub farthest : choice.farthest ≡ farthest_of wanted images level
   pub sample : choice.sample ≡ draw_of wanted.random wanted.seed (length (due_boards wanted images level))
 
--- of the boards below a rank, so many pass, and these are due
+-- of the boards below a rank, this many pass, and these are due
 pub record Chosen (wanted : Wanted) (images : List Image) (level rank passed : ℕ) (boards : List (List ℕ)) : Type 0 where
   pub count : passed ≡ length (passing wanted images level (take rank (tuples 12 level)))
   pub list : boards ≡ each wanted.every 0 (passing wanted images level (take rank (tuples 12 level)))

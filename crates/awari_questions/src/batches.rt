@@ -36,7 +36,7 @@ fn push_text(batch: &mut Batch, text: &[u8])
     };
 }
 
-/// Writes the lines if there is no room for so many bytes more, and says whether the writer took them.
+/// Writes the lines if there is no room for this many bytes more, and says whether the writer took them.
 fn make_room<W: Write>(batch: &mut Batch, bytes: usize, writer: &mut W) -> bool
     requires { bytes ≤ ROOM }
     ensures written { result ≡ true → Passes (W.contents writer.old) (W.contents writer.new) batch.old.items batch.new.items [] }

@@ -11,15 +11,12 @@ ghost use Rattle.awari_questions.specs.Boards.{AppendsWanted, IsRefused, IsWante
 use crate::listing::{count_boards, print_boards};
 use crate::walks::Asked;
 use crate::wanted::Wanted;
-use awari_answers::{Replies, load_levels, print, refuse, status_of};
+use awari_answers::{NoAnswer, Replies, load_levels, print, refuse, status_of};
 use awari_facts::{Source, load_to, open_to};
 use awari_folder::{Folder, FolderFault};
-use awari_queries::{
-    BoardsQuery, Form, NoColumn, NoSpan, Spans, asked_order, asked_spans, form_of,
-};
+use awari_queries::{BoardsQuery, Form, Spans, asked_order, asked_spans, form_of};
 use awari_table::{HIGHEST_LEVEL, Shelf};
 use std::alloc::Global;
-use std::fmt;
 use std::io::Write;
 use std::thread::Threads;
 
@@ -49,42 +46,17 @@ const ALL: Wanted = Wanted {
     form: Form::Text,
 };
 
-/// Why a query is refused. It is printed as the fault inside it.
-#[derive(Clone, Copy, Debug, PartialEq, Eq)]
-pub enum QueryFault {
-    /// 95: a span is none.
-    Span { fault: NoSpan },
-    /// 96: what boards are sorted by is no column, or it is not said how many of them are wanted.
-    Column { fault: NoColumn },
-}
-
-impl fmt::Display for QueryFault {
-    ghost use Rattle.std.specs.Prelude.{Some};
-    ghost use Rattle.awari_questions.specs.Boards.{query_fault_text};
-
-    ghost output = { λ fault. Some (query_fault_text fault) };
-
-    fn fmt<W: fmt::Write>(&self, f: &mut fmt::Formatter<W>) -> fmt::Result {
-        match *self {
-            QueryFault::Span { fault } => write!(f, "{fault}"),
-            QueryFault::Column { fault } => write!(f, "{fault}"),
-        }
-    }
-}
-
 /// The boards that the query asks for. It is refused as 95 if what it asks for is no span, and as 96 if it is
 /// no order.
-pub fn wanted_of(query: &BoardsQuery<'_>) -> Result<Wanted, QueryFault>
+pub fn wanted_of(query: &BoardsQuery<'_>) -> Result<Wanted, NoAnswer>
     ensures wanted { IfOk result (IsWanted query.now) }
     ensures none { IfErr result (IsRefused query.now) }
 {
-    let spans = match asked_spans(&query.spans) {
-        Ok(spans) => spans,
-        Err(fault) => return Err(QueryFault::Span { fault }),
+    let Ok(spans) = asked_spans(&query.spans) else {
+        return Err(NoAnswer::Span);
     };
-    let order = match asked_order(query.sort, query.most) {
-        Ok(order) => order,
-        Err(fault) => return Err(QueryFault::Column { fault }),
+    let Ok(order) = asked_order(query.sort, query.most) else {
+        return Err(NoAnswer::Column);
     };
     Ok(Wanted {
         spans,
@@ -107,8 +79,8 @@ pub fn wanted_of(query: &BoardsQuery<'_>) -> Result<Wanted, QueryFault>
 /// the source has the level, and not each 0th board is wanted.
 fn print_wanted<R: Threads + Sync, F: Folder, W: Write>(
     rt: &R,
-    folder: &mut F,
     alloc: Global,
+    folder: &mut F,
     asked: Asked<'_>,
     writer: &mut W,
 ) -> Result<bool, FolderFault>
@@ -120,17 +92,17 @@ fn print_wanted<R: Threads + Sync, F: Folder, W: Write>(
     ensures same { Unchanged (F.state folder.old) (F.state folder.new) }
 {
     if !asked.wanted.count {
-        return print_boards(rt, folder, alloc, asked, writer);
+        return print_boards(rt, alloc, folder, asked, writer);
     }
-    let count = count_boards(rt, folder, alloc, asked)?;
+    let count = count_boards(rt, alloc, folder, asked)?;
     Ok(print(writer, &count))
 }
 
 /// Prints the same, or the refusal, and gives the status. Conditions as for [`print_wanted`].
 fn run_asked<R: Threads + Sync, F: Folder, W: Replies>(
     rt: &R,
-    folder: &mut F,
     alloc: Global,
+    folder: &mut F,
     asked: Asked<'_>,
     writer: &mut W,
 ) -> u8
@@ -142,7 +114,7 @@ fn run_asked<R: Threads + Sync, F: Folder, W: Replies>(
         → AppendsWanted images asked.entry.level asked.entry.wanted.now (W.contents writer.old) (W.contents writer.new) }
     ensures same { Unchanged (F.state folder.old) (F.state folder.new) }
 {
-    match print_wanted(rt, folder, alloc, asked, writer) {
+    match print_wanted(rt, alloc, folder, asked, writer) {
         Ok(written) => status_of(written),
         Err(fault) => refuse(writer, fault),
     }
@@ -153,8 +125,8 @@ fn run_asked<R: Threads + Sync, F: Folder, W: Replies>(
 /// it asks for files that nobody verified, it takes none for levels.
 pub fn run_boards<T: Threads + Sync, F: Folder, W: Replies>(
     rt: &T,
-    folder: &mut F,
     alloc: Global,
+    folder: &mut F,
     query: &BoardsQuery<'_>,
     writer: &mut W,
 ) -> u8
@@ -176,9 +148,9 @@ pub fn run_boards<T: Threads + Sync, F: Folder, W: Replies>(
             level: query.level,
             wanted: &wanted,
         };
-        return run_asked(rt, folder, alloc, asked, writer);
+        return run_asked(rt, alloc, folder, asked, writer);
     }
-    let shelf = match load_to(rt, folder, alloc, query.level) {
+    let shelf = match load_to(rt, alloc, folder, query.level) {
         Ok(shelf) => shelf,
         Err(fault) => return refuse(writer, fault),
     };
@@ -187,14 +159,14 @@ pub fn run_boards<T: Threads + Sync, F: Folder, W: Replies>(
         level: query.level,
         wanted: &wanted,
     };
-    run_asked(rt, folder, alloc, asked, writer)
+    run_asked(rt, alloc, folder, asked, writer)
 }
 
 /// Prints all boards of all levels, and says whether the writer took them.
 fn print_levels<R: Threads + Sync, F: Folder, W: Write>(
     rt: &R,
-    folder: &mut F,
     alloc: Global,
+    folder: &mut F,
     shelf: &Shelf,
     writer: &mut W,
 ) -> Result<bool, FolderFault>
@@ -207,7 +179,7 @@ fn print_levels<R: Threads + Sync, F: Folder, W: Write>(
             level,
             wanted: &ALL,
         };
-        if !print_boards(rt, folder, alloc, asked, writer)? {
+        if !print_boards(rt, alloc, folder, asked, writer)? {
             return Ok(false);
         }
     }
@@ -217,8 +189,8 @@ fn print_levels<R: Threads + Sync, F: Folder, W: Write>(
 /// Prints all boards of the level of this number, or of all levels in a folder, or the refusal.
 pub fn run_all_boards<T: Threads + Sync, F: Folder, W: Replies>(
     rt: &T,
-    folder: &mut F,
     alloc: Global,
+    folder: &mut F,
     level: Option<u8>,
     writer: &mut W,
 ) -> u8
@@ -227,16 +199,16 @@ pub fn run_all_boards<T: Threads + Sync, F: Folder, W: Replies>(
     ensures found { result ≡ 0 → PrintsAllBoards (F.state folder.old).stands level (W.contents writer.old) (W.contents writer.new) }
 {
     let Some(level) = level else {
-        let shelf = match load_levels(rt, folder, alloc, HIGHEST_LEVEL) {
+        let shelf = match load_levels(rt, alloc, folder, HIGHEST_LEVEL) {
             Ok(shelf) => shelf,
             Err(fault) => return refuse(writer, fault),
         };
-        return match print_levels(rt, folder, alloc, &shelf, writer) {
+        return match print_levels(rt, alloc, folder, &shelf, writer) {
             Ok(written) => status_of(written),
             Err(fault) => refuse(writer, fault),
         };
     };
-    let shelf = match load_to(rt, folder, alloc, level) {
+    let shelf = match load_to(rt, alloc, folder, level) {
         Ok(shelf) => shelf,
         Err(fault) => return refuse(writer, fault),
     };
@@ -245,5 +217,5 @@ pub fn run_all_boards<T: Threads + Sync, F: Folder, W: Replies>(
         level,
         wanted: &ALL,
     };
-    run_asked(rt, folder, alloc, asked, writer)
+    run_asked(rt, alloc, folder, asked, writer)
 }

@@ -14,32 +14,20 @@ ghost use Rattle.awari_questions.specs.Numbers.{AreNumbersOf, HasLevels, HasOpen
 ghost use Rattle.awari_facts.specs.Sources.{SaysBy, levels_of};
 ghost use Rattle.awari_questions.specs.Tallies.{AreByDistance, AreByValue, IsTallyOf};
 
-use crate::shown::{DistanceShare, ShownLevel, ValueShare};
+use crate::shown::{print_distance, print_level, print_value};
 use crate::tallies::{Tally, VALUES, tally_level, value_of};
 use arrayvec::ArrayString;
-use awari_answers::{
-    LevelLine, NoAnswer, Replies, load_levels, print, refuse, refuse_json, status_of,
-};
-use awari_facts::{LevelFault, Source, count_levels, load_to, open_all, open_to, read_limit};
+use awari_answers::{LevelLine, NoAnswer, Replies, load_levels, refuse, refuse_json, status_of};
+use awari_facts::{Source, count_levels, load_to, open_all, open_to, read_limit};
 use awari_folder::{Folder, FolderFault};
 use awari_places::Opened;
+use awari_queries::CountsQuery;
 use awari_rank::size;
 use awari_table::{Counts, HIGHEST_LEVEL, Shelf};
 use std::alloc::Global;
 use std::fmt::Write as _;
 use std::io::Write;
 use std::thread::Threads;
-
-/// What is asked of the levels in numbers, in words.
-#[derive(Clone, Copy)]
-pub struct CountsQuery {
-    /// The one level that is asked for.
-    pub level: Option<u8>,
-    /// Whether the answer is JSON.
-    pub json: bool,
-    /// Whether files answer that nobody verified.
-    pub unverified: bool,
-}
 
 /// A level in numbers.
 #[derive(Drop)]
@@ -60,14 +48,7 @@ fn print_values<W: Write>(counts: &[u32], json: bool, writer: &mut W) -> bool
             continue;
         }
         let value = value_of(place);
-        if !print(
-            writer,
-            &ValueShare {
-                value,
-                boards,
-                json,
-            },
-        ) {
+        if !print_value(value, boards, json, writer) {
             return false;
         }
     }
@@ -85,15 +66,7 @@ fn print_distances<W: Write>(limit: u32, counts: &[u32], json: bool, writer: &mu
         if boards == 0 {
             continue;
         }
-        let distance = place as u32;
-        if !print(
-            writer,
-            &DistanceShare {
-                distance,
-                boards,
-                json,
-            },
-        ) {
+        if !print_distance(place as u32, boards, json, writer) {
             return false;
         }
     }
@@ -103,10 +76,10 @@ fn print_distances<W: Write>(limit: u32, counts: &[u32], json: bool, writer: &mu
 /// A level in numbers. Condition: the source has the level. It looks at each entry once, and takes memory
 /// for four bytes a distance. It is refused as 83 with V7 if the limit is not the greatest distance.
 fn numbers_of<F: Folder>(
+    alloc: Global,
     source: Source<'_>,
     folder: &mut F,
     level: u8,
-    alloc: Global,
 ) -> Result<Numbers, FolderFault>
     requires level { level < levels_of source }
     requires low { level ≤ HIGHEST_LEVEL }
@@ -119,7 +92,7 @@ fn numbers_of<F: Folder>(
         Ok(limit) => limit,
         Err(fault) => return Err(fault),
     };
-    let tally = match tally_level(source, folder, level, limit, alloc) {
+    let tally = match tally_level(alloc, source, folder, level, limit) {
         Ok(tally) => tally,
         Err(fault) => return Err(fault),
     };
@@ -153,7 +126,7 @@ fn print_numbers<W: Write>(numbers: &Numbers, json: bool, writer: &mut W) -> boo
     ensures { (image : Image) → AreNumbersOf image numbers.now → result ≡ true → Appends (W.contents writer.old) (W.contents writer.new) (count_lines json image) }
 {
     let told = numbers.told;
-    if !print(writer, &ShownLevel { told, json }) {
+    if !print_level(told, json, writer) {
         return false;
     }
     if !print_values(&numbers.tally.values, json, writer) {
@@ -164,9 +137,9 @@ fn print_numbers<W: Write>(numbers: &Numbers, json: bool, writer: &mut W) -> boo
 
 /// Prints the line of each level, and says whether the writer took them.
 fn print_levels<F: Folder, W: Write>(
+    alloc: Global,
     source: Source<'_>,
     folder: &mut F,
-    alloc: Global,
     json: bool,
     writer: &mut W,
 ) -> Result<bool, FolderFault>
@@ -176,11 +149,11 @@ fn print_levels<F: Folder, W: Write>(
     ensures same { Unchanged (F.state folder.old) (F.state folder.new) }
 {
     for number in 0..count_levels(source) {
-        let told = match numbers_of(source, folder, number, alloc) {
+        let told = match numbers_of(alloc, source, folder, number) {
             Ok(numbers) => numbers.told,
             Err(fault) => return Err(fault),
         };
-        if !print(writer, &ShownLevel { told, json }) {
+        if !print_level(told, json, writer) {
             return Ok(false);
         }
     }
@@ -190,29 +163,29 @@ fn print_levels<F: Folder, W: Write>(
 /// Prints what is asked of the levels of the source, and says whether the writer took that. Condition: the
 /// one level that is asked for is there.
 fn print_counts<F: Folder, W: Write>(
+    alloc: Global,
     source: Source<'_>,
     folder: &mut F,
-    alloc: Global,
-    query: CountsQuery,
+    query: CountsQuery<'_>,
     writer: &mut W,
 ) -> Result<bool, FolderFault>
     requires few { levels_of source ≤ HIGHEST_LEVEL + 1 }
     requires level { IfSome query.level (λ level. level < levels_of source) }
     ensures printed { (images : List Image) → SaysBy source.entry (F.state folder.old).stands images → result ≡ Ok true
-        → AppendsCounts query.json query.level images (W.contents writer.old) (W.contents writer.new) }
+        → AppendsCounts query.entry.json query.entry.level images (W.contents writer.old) (W.contents writer.new) }
     ensures same { Unchanged (F.state folder.old) (F.state folder.new) }
 {
     let Some(level) = query.level else {
-        return print_levels(source, folder, alloc, query.json, writer);
+        return print_levels(alloc, source, folder, query.json, writer);
     };
-    match numbers_of(source, folder, level, alloc) {
+    match numbers_of(alloc, source, folder, level) {
         Ok(numbers) => Ok(print_numbers(&numbers, query.json, writer)),
         Err(fault) => Err(fault),
     }
 }
 
 /// Prints the refusal, and gives the status 1.
-fn refuse_counts<W: Replies>(writer: &mut W, query: CountsQuery, fault: LevelFault) -> u8
+fn refuse_counts<W: Replies>(writer: &mut W, query: CountsQuery<'_>, fault: NoAnswer) -> u8
     ensures { result ≡ 1 }
 {
     if !query.json {
@@ -223,29 +196,25 @@ fn refuse_counts<W: Replies>(writer: &mut W, query: CountsQuery, fault: LevelFau
         // There is room for any level.
         let _ = write!(word, "{level}");
     }
-    let fault = match fault {
-        LevelFault::Folder { fault } => NoAnswer::Folder { fault },
-        LevelFault::NotYet { fault } => NoAnswer::NotYet { fault },
-    };
     refuse_json(writer, "counts", word.as_str(), fault)
 }
 
 /// The levels in a folder, up to the one of this number if there is one.
 fn load_for<T: Threads + Sync, F: Folder>(
     rt: &T,
-    folder: &mut F,
     alloc: Global,
+    folder: &mut F,
     level: Option<u8>,
-) -> Result<Shelf, LevelFault>
+) -> Result<Shelf, NoAnswer>
     ensures levels { IfOk result (HasLevels level (F.state folder.old).stands) }
     ensures same { Same (F.state folder.old).stands (F.state folder.new).stands }
 {
     if let Some(number) = level {
-        return load_to(rt, folder, alloc, number);
+        return load_to(rt, alloc, folder, number);
     }
-    match load_levels(rt, folder, alloc, HIGHEST_LEVEL) {
+    match load_levels(rt, alloc, folder, HIGHEST_LEVEL) {
         Ok(shelf) => Ok(shelf),
-        Err(fault) => Err(LevelFault::Folder { fault }),
+        Err(fault) => Err(NoAnswer::Folder { fault }),
     }
 }
 
@@ -254,53 +223,53 @@ fn load_for<T: Threads + Sync, F: Folder>(
 /// four bytes for each distance.
 pub fn run_counts<T: Threads + Sync, F: Folder, W: Replies>(
     rt: &T,
-    folder: &mut F,
     alloc: Global,
-    query: CountsQuery,
+    folder: &mut F,
+    query: CountsQuery<'_>,
     writer: &mut W,
 ) -> u8
     ensures status { result ≤ 1 }
     ensures same { Same (F.state folder.old).stands (F.state folder.new).stands }
-    ensures found { result ≡ 0 → PrintsCountsBy query.unverified query.json (F.state folder.old).stands query.level (W.contents writer.old) (W.contents writer.new) }
+    ensures found { result ≡ 0 → PrintsCountsBy query.entry.unverified query.entry.json (F.state folder.old).stands query.entry.level (W.contents writer.old) (W.contents writer.new) }
 {
     if query.unverified {
-        return run_counts_said(folder, alloc, query, writer);
+        return run_counts_said(alloc, folder, query, writer);
     }
-    let shelf = match load_for(rt, folder, alloc, query.level) {
+    let shelf = match load_for(rt, alloc, folder, query.level) {
         Ok(shelf) => shelf,
         Err(fault) => return refuse_counts(writer, query, fault),
     };
     // For the proof: the levels are a shelf.
     let _levels = shelf.levels();
-    match print_counts(Source::Shelf(&shelf), folder, alloc, query, writer) {
+    match print_counts(alloc, Source::Shelf(&shelf), folder, query, writer) {
         Ok(written) => status_of(written),
-        Err(fault) => refuse_counts(writer, query, LevelFault::Folder { fault }),
+        Err(fault) => refuse_counts(writer, query, NoAnswer::Folder { fault }),
     }
 }
 
 /// Prints the same by what the files say.
 fn run_counts_said<F: Folder, W: Replies>(
-    folder: &mut F,
     alloc: Global,
-    query: CountsQuery,
+    folder: &mut F,
+    query: CountsQuery<'_>,
     writer: &mut W,
 ) -> u8
     ensures status { result ≤ 1 }
     ensures same { Same (F.state folder.old).stands (F.state folder.new).stands }
-    ensures found { result ≡ 0 → PrintsCountsSaid query.json (F.state folder.old).stands query.level (W.contents writer.old) (W.contents writer.new) }
+    ensures found { result ≡ 0 → PrintsCountsSaid query.entry.json (F.state folder.old).stands query.entry.level (W.contents writer.old) (W.contents writer.new) }
 {
     let opened = match open_for(folder, query.level) {
         Ok(opened) => opened,
         Err(fault) => return refuse_counts(writer, query, fault),
     };
-    match print_counts(Source::Files(opened.levels), folder, alloc, query, writer) {
+    match print_counts(alloc, Source::Files(opened.levels), folder, query, writer) {
         Ok(written) => status_of(written),
-        Err(fault) => refuse_counts(writer, query, LevelFault::Folder { fault }),
+        Err(fault) => refuse_counts(writer, query, NoAnswer::Folder { fault }),
     }
 }
 
 /// The levels in a folder, up to the one of this number if there is one, by the headers of their files.
-fn open_for<F: Folder>(folder: &mut F, level: Option<u8>) -> Result<Opened, LevelFault>
+fn open_for<F: Folder>(folder: &mut F, level: Option<u8>) -> Result<Opened, NoAnswer>
     ensures opened { IfOk result (HasOpened level (F.state folder.old).stands) }
     ensures few { IfOk result (λ opened. opened.levels ≤ HIGHEST_LEVEL + 1) }
     ensures same { Same (F.state folder.old).stands (F.state folder.new).stands }

@@ -31,10 +31,10 @@ mod tallies;
 mod walks;
 mod wanted;
 
-pub use boards::{QueryFault, run_all_boards, run_boards, wanted_of};
-pub use counting::{PlaysFault, plays_from, run_plays};
-pub use counts::{CountsQuery, run_counts};
+pub use boards::{run_all_boards, run_boards, wanted_of};
+pub use counting::{plays_from, run_plays};
+pub use counts::run_counts;
 pub use laws::counts_come_to_the_size;
-pub use places::{Place, PlaceFault, board_at, place_of, run_board, run_rank};
+pub use places::{Place, board_at, place_of, run_board, run_rank};
 pub use sums::PlayCounts;
 pub use wanted::Wanted;

@@ -41,8 +41,8 @@ fn farther(within: bool, farthest: u32, distance: u32) -> u32
 /// for, else 0. Condition: the source has the level.
 fn find_farthest<R: Threads + Sync, F: Folder>(
     rt: &R,
-    folder: &mut F,
     alloc: Global,
+    folder: &mut F,
     asked: Asked<'_>,
 ) -> Result<u32, FolderFault>
     requires level { asked.level < levels_of asked.source }
@@ -54,7 +54,7 @@ fn find_farthest<R: Threads + Sync, F: Folder>(
     if !asked.wanted.farthest {
         return Ok(0);
     }
-    let mut segment = segment_for(asked, alloc)?;
+    let mut segment = segment_for(alloc, asked)?;
     let mut run = Run::new();
     let mut farthest = 0;
     for rank in 0..size(level) {
@@ -70,8 +70,8 @@ fn find_farthest<R: Threads + Sync, F: Folder>(
 /// wanted.
 fn count_taken<R: Threads + Sync, F: Folder>(
     rt: &R,
-    folder: &mut F,
     alloc: Global,
+    folder: &mut F,
     choice: Choice<'_>,
 ) -> Result<u32, FolderFault>
     requires level { choice.asked.level < levels_of choice.asked.source }
@@ -81,7 +81,7 @@ fn count_taken<R: Threads + Sync, F: Folder>(
         → IfOk result (λ n. n ≡ length (taken choice.entry.sample (due_boards choice.entry.asked.wanted.now images choice.entry.asked.level))) }
     ensures same { Unchanged (F.state folder.old) (F.state folder.new) }
 {
-    let mut walk = new_walk(choice.asked, choice.sample, alloc)?;
+    let mut walk = new_walk(alloc, choice.asked, choice.sample)?;
     let mut count = 0u32;
     for rank in 0..size(choice.asked.level) {
         if step(rt, folder, choice, &mut walk, rank)?.is_some() {
@@ -94,8 +94,8 @@ fn count_taken<R: Threads + Sync, F: Folder>(
 /// What has to be known before the boards of a level are listed. Conditions as for [`count_taken`].
 fn choose<'a, R: Threads + Sync, F: Folder>(
     rt: &R,
-    folder: &mut F,
     alloc: Global,
+    folder: &mut F,
     asked: Asked<'a>,
 ) -> Result<Choice<'a>, FolderFault>
     requires level { asked.level < levels_of asked.source }
@@ -105,7 +105,7 @@ fn choose<'a, R: Threads + Sync, F: Folder>(
     ensures asked { IfOk result (λ choice. choice.asked ≡ asked.entry) }
     ensures same { Unchanged (F.state folder.old) (F.state folder.new) }
 {
-    let farthest = find_farthest(rt, folder, alloc, asked)?;
+    let farthest = find_farthest(rt, alloc, folder, asked)?;
     let all = Choice {
         asked,
         farthest,
@@ -115,7 +115,7 @@ fn choose<'a, R: Threads + Sync, F: Folder>(
     if wanted.random == 0 {
         return Ok(all);
     }
-    let due = count_taken(rt, folder, alloc, all)?;
+    let due = count_taken(rt, alloc, folder, all)?;
     let sample = draw_of(wanted.random, u64::from(wanted.seed), due);
     Ok(Choice { sample, ..all })
 }
@@ -141,7 +141,7 @@ fn keeping<F: Folder>(
     Ok(Some(moves_gaining(&moves, seen.entry.value)))
 }
 
-/// The numbers of a board's line. Conditions: the level is there, and has so many boards.
+/// The numbers of a board's line. Conditions: the level is there, and has that many boards.
 fn numbers_of<F: Folder>(
     folder: &mut F,
     asked: Asked<'_>,
@@ -171,8 +171,8 @@ fn numbers_of<F: Folder>(
 /// [`count_taken`].
 fn print_taken<R: Threads + Sync, F: Folder, W: Write>(
     rt: &R,
-    folder: &mut F,
     alloc: Global,
+    folder: &mut F,
     choice: Choice<'_>,
     writer: &mut W,
 ) -> Result<bool, FolderFault>
@@ -185,7 +185,7 @@ fn print_taken<R: Threads + Sync, F: Folder, W: Write>(
 {
     let level = choice.asked.level;
     let wanted = choice.asked.wanted;
-    let mut walk = new_walk(choice.asked, choice.sample, alloc)?;
+    let mut walk = new_walk(alloc, choice.asked, choice.sample)?;
     let mut batch = new_batch(wanted.form, wanted.with_moves, wanted.with_keep);
     for rank in 0..size(level) {
         let Some(taken) = step(rt, folder, choice, &mut walk, rank)? else {
@@ -213,8 +213,8 @@ fn print_taken<R: Threads + Sync, F: Folder, W: Write>(
 /// The first ones of the boards that are taken. Conditions as for [`count_taken`]. It takes memory for these.
 fn hold_taken<R: Threads + Sync, F: Folder>(
     rt: &R,
-    folder: &mut F,
     alloc: Global,
+    folder: &mut F,
     choice: Choice<'_>,
     order: Order,
 ) -> Result<Vec<Held>, FolderFault>
@@ -226,7 +226,7 @@ fn hold_taken<R: Threads + Sync, F: Folder>(
     ensures few { IfOk result (λ held. All (λ (h : AHeld). h.rank < size_of choice.entry.asked.level) held.items) }
     ensures same { Unchanged (F.state folder.old) (F.state folder.new) }
 {
-    let mut walk = new_walk(choice.asked, choice.sample, alloc)?;
+    let mut walk = new_walk(alloc, choice.asked, choice.sample)?;
     let mut held = Vec::new(alloc);
     for rank in 0..size(choice.asked.level) {
         let Some(taken) = step(rt, folder, choice, &mut walk, rank)? else {
@@ -245,7 +245,7 @@ fn hold_taken<R: Threads + Sync, F: Folder>(
 }
 
 /// Prints boards that are held, and says whether the writer took them. Conditions: the source has the level,
-/// and that has so many boards.
+/// and that has that many boards.
 fn print_held<F: Folder, W: Write>(
     folder: &mut F,
     asked: Asked<'_>,
@@ -277,8 +277,8 @@ fn print_held<F: Folder, W: Write>(
 /// as for [`count_taken`]. It takes memory for those that are sorted, and for those that threads look at.
 pub(crate) fn print_boards<R: Threads + Sync, F: Folder, W: Write>(
     rt: &R,
-    folder: &mut F,
     alloc: Global,
+    folder: &mut F,
     asked: Asked<'_>,
     writer: &mut W,
 ) -> Result<bool, FolderFault>
@@ -289,11 +289,11 @@ pub(crate) fn print_boards<R: Threads + Sync, F: Folder, W: Write>(
         → AppendsLines asked.entry.wanted.now images (wanted_boards asked.entry.wanted.now images asked.entry.level) (W.contents writer.old) (W.contents writer.new) }
     ensures same { Unchanged (F.state folder.old) (F.state folder.new) }
 {
-    let choice = choose(rt, folder, alloc, asked)?;
+    let choice = choose(rt, alloc, folder, asked)?;
     match asked.wanted.order {
-        None => print_taken(rt, folder, alloc, choice, writer),
+        None => print_taken(rt, alloc, folder, choice, writer),
         Some(order) => {
-            let held = hold_taken(rt, folder, alloc, choice, order)?;
+            let held = hold_taken(rt, alloc, folder, choice, order)?;
             print_held(folder, asked, held.as_slice(), writer)
         }
     }
@@ -302,8 +302,8 @@ pub(crate) fn print_boards<R: Threads + Sync, F: Folder, W: Write>(
 /// How many boards of a level are wanted. Conditions as for [`count_taken`].
 pub(crate) fn count_boards<R: Threads + Sync, F: Folder>(
     rt: &R,
-    folder: &mut F,
     alloc: Global,
+    folder: &mut F,
     asked: Asked<'_>,
 ) -> Result<u32, FolderFault>
     requires level { asked.level < levels_of asked.source }
@@ -312,8 +312,8 @@ pub(crate) fn count_boards<R: Threads + Sync, F: Folder>(
     ensures counted { (images : List Image) → SaysBy asked.entry.source (F.state folder.old).stands images → IfOk result (λ n. n ≡ length (wanted_boards asked.entry.wanted.now images asked.entry.level)) }
     ensures same { Unchanged (F.state folder.old) (F.state folder.new) }
 {
-    let choice = choose(rt, folder, alloc, asked)?;
-    let count = count_taken(rt, folder, alloc, choice)?;
+    let choice = choose(rt, alloc, folder, asked)?;
+    let count = count_taken(rt, alloc, folder, choice)?;
     match asked.wanted.order {
         None => Ok(count),
         Some(order) => Ok(count.min(order.most)),

@@ -38,7 +38,7 @@ impl Memo {
         }
     }
 
-    /// The plays of so many plies from the board, if they were counted.
+    /// The plays of this many plies from the board, if they were counted.
     pub(crate) fn known(&self, board: &Board, plies: u8) -> Option<PlayCounts>
         ensures { IfSome result (λ counts. (before : ℕ) → AreCounts plies before board.now counts) }
     {

@@ -2,10 +2,10 @@
 
 ghost use Rattle.std.specs.Prelude.{◌≡◌, ◌≤◌, IfOk, IfErr};
 ghost use Rattle.awari_questions.specs.Places.{IsBoardAt, IsNoBoard, IsNoPlace, IsPlaceOf, PrintsBoard, PrintsPlace};
-ghost use Rattle.awari_questions.specs.declared.places.PlaceFault.TheVariants as place_fault;
+ghost use Rattle.awari_answers.specs.declared.asked.NoAnswer.TheVariants as no_answer;
 
-use awari_answers::{Replies, print, refuse, status_of};
-use awari_board::{Board, BoardFault};
+use awari_answers::{NoAnswer, Replies, print, refuse, status_of};
+use awari_board::Board;
 use awari_rank::{rank, size, unrank};
 use awari_table::{HIGHEST_LEVEL, NotYet};
 use std::fmt;
@@ -33,44 +33,9 @@ impl fmt::Display for Place {
     }
 }
 
-/// Why there is no place, or no board at a place. It is printed as the fault inside it, or as its
-/// number, its name, and its field with its name.
-#[derive(Clone, Copy, Debug, PartialEq, Eq)]
-pub enum PlaceFault {
-    /// The text is not a board.
-    Board { fault: BoardFault },
-    /// 59: the level is above the highest.
-    NotYet { fault: NotYet },
-    /// 93: the level has only so many boards, and the rank is none of theirs.
-    NoRank { boards: u32 },
-}
-
-impl From<BoardFault> for PlaceFault {
-    ghost from_gives = { λ fault e. e ≡ place_fault.Board fault };
-
-    fn from(fault: BoardFault) -> Self {
-        PlaceFault::Board { fault }
-    }
-}
-
-impl fmt::Display for PlaceFault {
-    ghost use Rattle.std.specs.Prelude.{Some};
-    ghost use Rattle.awari_questions.specs.Places.{place_fault_text};
-
-    ghost output = { λ fault. Some (place_fault_text fault) };
-
-    fn fmt<W: fmt::Write>(&self, f: &mut fmt::Formatter<W>) -> fmt::Result {
-        match *self {
-            PlaceFault::Board { fault } => write!(f, "{fault}"),
-            PlaceFault::NotYet { fault } => write!(f, "{fault}"),
-            PlaceFault::NoRank { boards } => write!(f, "93 NoRank boards {boards}"),
-        }
-    }
-}
-
 /// The place of the board that `text` spells. A text that is not a board is refused as
 /// [`Board::parse`] refuses it, and a board of more than 24 stones as 59. It takes no memory.
-pub fn place_of(text: &[u8]) -> Result<Place, PlaceFault>
+pub fn place_of(text: &[u8]) -> Result<Place, NoAnswer>
     ensures place { IfOk result (IsPlaceOf text.now) }
     ensures fault { IfErr result (IsNoPlace text.now) }
 {
@@ -87,7 +52,7 @@ pub fn place_of(text: &[u8]) -> Result<Place, PlaceFault>
 
 /// The board of this rank in this level. A level above 24 is refused as 59, and a rank that the level
 /// does not have as 93. It takes no memory.
-pub fn board_at(level: u8, rank: u32) -> Result<Board, PlaceFault>
+pub fn board_at(level: u8, rank: u32) -> Result<Board, NoAnswer>
     ensures board { IfOk result (IsBoardAt level rank) }
     ensures fault { IfErr result (IsNoBoard level rank) }
 {
@@ -96,16 +61,16 @@ pub fn board_at(level: u8, rank: u32) -> Result<Board, PlaceFault>
     }
     let boards = size(level);
     if rank >= boards {
-        return Err(PlaceFault::NoRank { boards });
+        return Err(NoAnswer::NoRank { boards });
     }
     Ok(unrank(level, rank))
 }
 
 /// The refusal of a level above the highest.
-fn above_highest() -> PlaceFault
-    ensures { result ≡ place_fault.NotYet (record { levels = 25 }) }
+fn above_highest() -> NoAnswer
+    ensures { result ≡ no_answer.NotYet (record { levels = 25 }) }
 {
-    PlaceFault::NotYet {
+    NoAnswer::NotYet {
         fault: NotYet { levels: LEVELS },
     }
 }

@@ -24,15 +24,15 @@ pub(crate) struct Segment {
     keys: Vec<Option<i64>>,
 }
 
-/// No board, with room for so many. It takes memory for these.
-pub(crate) fn new_segment(boards: u32, alloc: Global) -> Result<Segment, AllocError>
+/// No board, with room for this many. It takes memory for these.
+pub(crate) fn new_segment(alloc: Global, boards: u32) -> Result<Segment, AllocError>
     ensures { (wanted : Wanted) (images : List Image) (level : ℕ) → IfOk result (HasKeys wanted images level) }
 {
     let keys = vec![in alloc; None; boards as usize]?;
     Ok(Segment { first: None, keys })
 }
 
-/// What a board is sorted by, if there is one so many places behind a rank and it has all that is wanted of
+/// What a board is sorted by, if there is one this many places behind a rank and it has all that is wanted of
 /// it. Condition: the level is there.
 fn key_behind(shelf: &Shelf, wanted: &Wanted, first: &Seen, place: usize) -> Option<i64>
     requires { first.now.level < length shelf.now }

@@ -78,7 +78,7 @@ fn count_distance(counts: &mut Vec<u32>, place: usize)
 }
 
 /// No board, for distances up to this limit. It takes memory for four bytes a distance.
-fn new_tally(limit: u32, alloc: Global) -> Result<Tally, AllocError>
+fn new_tally(alloc: Global, limit: u32) -> Result<Tally, AllocError>
     ensures { IfOk result (IsTallyOf limit []) }
 {
     let distances = vec![in alloc; 0u32; limit as usize + 1]?;
@@ -103,11 +103,11 @@ fn add(tally: &mut Tally, entry: Entry)
 /// The boards of a level, counted. Condition: the source has the level. It takes memory for four bytes a
 /// distance, and is refused as 83 with V7 if the limit is not the greatest distance.
 pub(crate) fn tally_level<F: Folder>(
+    alloc: Global,
     source: Source<'_>,
     folder: &mut F,
     level: u8,
     limit: u32,
-    alloc: Global,
 ) -> Result<Tally, FolderFault>
     requires level { level < levels_of source }
     requires low { level ≤ HIGHEST_LEVEL }
@@ -118,7 +118,7 @@ pub(crate) fn tally_level<F: Folder>(
     if limit > size(level) {
         return Err(wrong_limit(level));
     }
-    let mut tally = match new_tally(limit, alloc) {
+    let mut tally = match new_tally(alloc, limit) {
         Ok(tally) => tally,
         Err(_) => return Err(FolderFault::Memory),
     };

@@ -73,15 +73,15 @@ pub(crate) struct Taken {
 
 /// A walk that is at its begin. It takes memory for as many boards as threads look at together.
 pub(crate) fn new_walk(
+    alloc: Global,
     asked: Asked<'_>,
     sample: Option<Draw>,
-    alloc: Global,
 ) -> Result<Walk, FolderFault>
     ensures walked { (wanted : AWanted) (images : List Image) (level : ℕ) → IfOk result (Walked wanted images level 0 sample []) }
     ensures none { IfOk result (λ walk. walk.passed ≡ 0) }
 {
     Ok(Walk {
-        segment: segment_for(asked, alloc)?,
+        segment: segment_for(alloc, asked)?,
         run: Run::new(),
         passed: 0,
         sample,
@@ -89,21 +89,21 @@ pub(crate) fn new_walk(
 }
 
 /// A segment for what is asked: with files, no board is looked at ahead.
-pub(crate) fn segment_for(asked: Asked<'_>, alloc: Global) -> Result<Segment, FolderFault>
+pub(crate) fn segment_for(alloc: Global, asked: Asked<'_>) -> Result<Segment, FolderFault>
     ensures { (wanted : AWanted) (images : List Image) (level : ℕ) → IfOk result (HasKeys wanted images level) }
 {
     let boards = match asked.source {
         Source::Shelf(_) => SEGMENT,
         Source::Files(_) => 0,
     };
-    match new_segment(boards, alloc) {
+    match new_segment(alloc, boards) {
         Ok(segment) => Ok(segment),
         Err(_) => Err(FolderFault::Memory),
     }
 }
 
 /// What a board is sorted by, if it has all that is wanted of it. By verified levels threads look at it and at
-/// those behind it. Conditions: the level is there, and has so many boards.
+/// those behind it. Conditions: the level is there, and has that many boards.
 pub(crate) fn look<R: Threads + Sync, F: Folder>(
     rt: &R,
     folder: &mut F,
@@ -127,7 +127,7 @@ pub(crate) fn look<R: Threads + Sync, F: Folder>(
     }
 }
 
-/// Whether a board is due, of which it is known whether it passes. So many passed before it, and it is
+/// Whether a board is due, of which it is known whether it passes. This many passed before it, and it is
 /// counted if it does.
 fn is_due(passes: bool, every: u32, passed: &mut u32) -> bool
     requires every { 0 < every }
@@ -152,7 +152,7 @@ fn passes(wanted: &Wanted, farthest: u32, key: Option<i64>, entry: Entry) -> boo
 }
 
 /// The board of the next rank, if it is wanted, where the farthest have this distance. Conditions: the level
-/// is there, and has so many boards; not each 0th board is wanted; no more boards passed than there were.
+/// is there, and has that many boards; not each 0th board is wanted; no more boards passed than there were.
 pub(crate) fn step<R: Threads + Sync, F: Folder>(
     rt: &R,
     folder: &mut F,

@@ -35,9 +35,9 @@ pub struct Wanted {
     pub running: bool,
     /// Those of the greatest distance that is left.
     pub farthest: bool,
-    /// Each so many-th of these.
+    /// One in this many of these.
     pub every: u32,
-    /// So many of them, drawn by chance; 0 is all.
+    /// This many of them, drawn by chance; 0 is all.
     pub random: u32,
     /// The number that decides which are drawn.
     pub seed: u32,
@@ -78,7 +78,7 @@ fn suits(wanted: &Wanted, board: &PackedBoard, entry: Entry) -> bool
     has(wanted.spans.captures, plan_captures(board, entry.plan)) && is_of_kind(wanted, moves)
 }
 
-/// Whether a board of so many legal moves has ended or has not, if that is wanted.
+/// Whether a board with this many legal moves has ended or has not, if that is wanted.
 fn is_of_kind(wanted: &Wanted, moves: u8) -> bool
     ensures { result ≡ is_of_kind wanted.now moves }
 {
@@ -110,7 +110,7 @@ fn asks_moves(spans: &Spans) -> bool
     spans.keep.is_some() || spans.trap.is_some()
 }
 
-/// Whether the rules say of the board of a rank what is wanted. Condition: the level has so many boards.
+/// Whether the rules say of the board of a rank what is wanted. Condition: the level has that many boards.
 fn suits_rules(wanted: &Wanted, seen: &Seen) -> bool
     requires level { seen.now.level ≤ HIGHEST_LEVEL }
     requires rank { seen.now.rank < size_of seen.now.level }
@@ -123,7 +123,7 @@ fn suits_rules(wanted: &Wanted, seen: &Seen) -> bool
 }
 
 /// Whether the board of a rank has all that is wanted of each, if that is known without a look at other
-/// boards. Condition: the level has so many boards.
+/// boards. Condition: the level has that many boards.
 fn settled(wanted: &Wanted, seen: &Seen) -> Option<bool>
     requires level { seen.now.level ≤ HIGHEST_LEVEL }
     requires rank { seen.now.rank < size_of seen.now.level }
@@ -226,7 +226,7 @@ fn is_weighed<F: Folder>(
 }
 
 /// Whether by verified levels the board of a rank has all that is wanted of each. Condition: the level is
-/// there, and has so many boards.
+/// there, and has that many boards.
 fn is_within_on(shelf: &Shelf, wanted: &Wanted, seen: &Seen) -> bool
     requires level { seen.now.level < length shelf.now }
     requires rank { seen.now.rank < size_of seen.now.level }
@@ -240,7 +240,7 @@ fn is_within_on(shelf: &Shelf, wanted: &Wanted, seen: &Seen) -> bool
     }
 }
 
-/// Whether the board of a rank has all that is wanted of each. Condition: the level is there, and has so many
+/// Whether the board of a rank has all that is wanted of each. Condition: the level is there, and has this many
 /// boards.
 fn is_within<F: Folder>(
     source: Source<'_>,
@@ -262,7 +262,7 @@ fn is_within<F: Folder>(
 }
 
 /// What the board of a rank is sorted by, if by verified levels it has all that is wanted of each. Condition:
-/// the level is there, and has so many boards.
+/// the level is there, and has that many boards.
 pub(crate) fn key_on(shelf: &Shelf, wanted: &Wanted, seen: &Seen) -> Option<i64>
     requires level { seen.now.level < length shelf.now }
     requires rank { seen.now.rank < size_of seen.now.level }
@@ -278,7 +278,7 @@ pub(crate) fn key_on(shelf: &Shelf, wanted: &Wanted, seen: &Seen) -> Option<i64>
 }
 
 /// What the board of a rank is sorted by, if it has all that is wanted of each. Condition: the level is
-/// there, and has so many boards.
+/// there, and has that many boards.
 pub(crate) fn key_of_board<F: Folder>(
     source: Source<'_>,
     folder: &mut F,

@@ -30,12 +30,12 @@ AreMovesSaid replies stands levels then board (Ok w) = (then ≡ levels) × (sum
 AreMovesSaid replies stands levels then board (Err (NotYet below)) = (then ≡ levels) × (levels ≤ sum board) × (below ≡ levels)
 AreMovesSaid replies stands levels then board (Err (Folder fault)) = (then ≡ levels) × (sum board < levels)
 
--- how the files of so many levels answer a service
+-- how the files of this many levels answer a service
 abbrev pub by_files : (ℕ → Option (Option (List ℕ))) → Answering ℕ Unsaid
 by_files stands =
     record { seen = λ levels. levels; entry = IsEntrySaid stands; moves = λ replies. AreMovesSaid replies stands; line = line_of; number = number_of; name = name_of }
 
--- Where the input is known, and what the writer holds: what was written is the output for it, by the files of so many levels.
+-- Where the input is known, and what the writer holds: what was written is the output for it, by the files of this many levels.
 abbrev pub IsServedSaid : (ℕ → Option (Option (List ℕ))) → ℕ → Option (List ℕ) → Option (List ℕ) → Option (List ℕ) → Type 0
 IsServedSaid stands levels input before after = (bytes : List ℕ) × IsInput input bytes × HasServed (by_files stands) levels before bytes after levels
 

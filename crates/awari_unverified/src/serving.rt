@@ -50,7 +50,7 @@ pub fn run_serve_unverified<F: Folder, R: Read, W: Replies, E>(
     }
 }
 
-/// Answers the lines of the reader by the files of so many levels.
+/// Answers the lines of the reader by the files of this many levels.
 fn serve_lines<F: Folder, R: Read, W: Write>(
     folder: &mut F,
     levels: u8,

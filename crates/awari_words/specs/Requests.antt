@@ -26,7 +26,7 @@ Lacks given id = first_of id given ≡ None
 abbrev pub Spells : List Row → List ℕ → ℕ → Type 0
 Spells given id n = (one_of id given ≢ None) × ((t : List ℕ) → one_of id given ≡ Some t → n ≡ digits_value 10 (without_leading_plus t))
 
--- the first value of this name spells no number of so many bits
+-- the first value of this name spells no number of this many bits
 abbrev pub SpellsNone : ℕ → List Row → List ℕ → Type 0
 SpellsNone bits given id = (t : List ℕ) → one_of id given ≡ Some t → IsNumeral 10 (without_leading_plus t) → digits_value 10 (without_leading_plus t) < 2 ^ bits → ⊥
 
@@ -84,22 +84,22 @@ IsNoBoardsQuery given =
 
 -- The question is that of the command's name, with the values that were given for each of its names.
 abbrev pub IsQuestionOf : List ℕ → List Row → Question → Type 0
-IsQuestionOf name given (Verify levels digest progress) = (name ≡ codes "verify") × SpellsOr given (codes "levels") levels
-    × (option_map (λ t. t.now) digest ≡ first_of (codes "digest") given) × IsFlagOf given (codes "progress") progress
-IsQuestionOf name given (Text level boards) = (name ≡ codes "text") × SpellsOr given (codes "LEVEL") level × IsFlagOf given (codes "boards") boards
-IsQuestionOf name given (Ask board json unverified) = (name ≡ codes "ask") × Gives given (codes "BOARD") board.now × IsFlagOf given (codes "json") json
-    × IsFlagOf given (codes "unverified") unverified
-IsQuestionOf name given (Moves board replies json unverified) = (name ≡ codes "moves") × Gives given (codes "BOARD") board.now
-    × IsFlagOf given (codes "replies") replies × IsFlagOf given (codes "json") json × IsFlagOf given (codes "unverified") unverified
-IsQuestionOf name given (Line board longest plies json unverified) = (name ≡ codes "line") × Gives given (codes "BOARD") board.now
-    × IsFlagOf given (codes "longest") longest × IsFlagOf given (codes "plies") plies × IsFlagOf given (codes "json") json
-    × IsFlagOf given (codes "unverified") unverified
-IsQuestionOf name given (Serve top owners unverified) = (name ≡ codes "serve") × Spells given (codes "TOP") top × Spells given (codes "OWNERS") owners
-    × IsFlagOf given (codes "unverified") unverified
-IsQuestionOf name given (Counts level by json csv unverified) = (name ≡ codes "counts") × SpellsOr given (codes "LEVEL") level
-    × (option_map (λ t. t.now) by ≡ first_of (codes "by") given) × IsFlagOf given (codes "json") json × IsFlagOf given (codes "csv") csv
-    × IsFlagOf given (codes "unverified") unverified
-IsQuestionOf name given (Boards query) = (name ≡ codes "boards") × IsBoardsQueryOf given query
+IsQuestionOf name given (Verify q) = (name ≡ codes "verify") × SpellsOr given (codes "levels") q.levels
+    × (option_map (λ t. t.now) q.digest ≡ first_of (codes "digest") given) × IsFlagOf given (codes "progress") q.progress
+IsQuestionOf name given (Text q) = (name ≡ codes "text") × SpellsOr given (codes "LEVEL") q.level × IsFlagOf given (codes "boards") q.boards
+IsQuestionOf name given (Ask q) = (name ≡ codes "ask") × Gives given (codes "BOARD") q.board.now × IsFlagOf given (codes "json") q.json
+    × IsFlagOf given (codes "unverified") q.unverified
+IsQuestionOf name given (Moves q) = (name ≡ codes "moves") × Gives given (codes "BOARD") q.board.now
+    × IsFlagOf given (codes "replies") q.replies × IsFlagOf given (codes "json") q.json × IsFlagOf given (codes "unverified") q.unverified
+IsQuestionOf name given (Line q) = (name ≡ codes "line") × Gives given (codes "BOARD") q.board.now
+    × IsFlagOf given (codes "longest") q.longest × IsFlagOf given (codes "plies") q.plies × IsFlagOf given (codes "json") q.json
+    × IsFlagOf given (codes "unverified") q.unverified
+IsQuestionOf name given (Serve q) = (name ≡ codes "serve") × Spells given (codes "TOP") q.top × Spells given (codes "OWNERS") q.owners
+    × IsFlagOf given (codes "unverified") q.unverified
+IsQuestionOf name given (Counts q) = (name ≡ codes "counts") × SpellsOr given (codes "LEVEL") q.level
+    × (option_map (λ t. t.now) q.by ≡ first_of (codes "by") given) × IsFlagOf given (codes "json") q.json × IsFlagOf given (codes "csv") q.csv
+    × IsFlagOf given (codes "unverified") q.unverified
+IsQuestionOf name given (Boards q) = (name ≡ codes "boards") × IsBoardsQueryOf given q
 
 -- The same of the request. A question's folder has one name in all commands.
 abbrev pub IsRequestOf : List ℕ → List Row → Request → Type 0
@@ -107,8 +107,8 @@ IsRequestOf name given Check = name ≡ codes "check"
 IsRequestOf name given (Move board pit) = (name ≡ codes "move") × Gives given (codes "BOARD") board.now × Spells given (codes "PIT") pit
 IsRequestOf name given (Judge board limit moves) = (name ≡ codes "judge") × Gives given (codes "BOARD") board.now × Spells given (codes "LIMIT") limit
     × (option_map (λ words. texts words.now) moves ≡ all_of (codes "MOVES") given)
-IsRequestOf name given (Build top folder threads pace progress estimate) = (name ≡ codes "build") × Spells given (codes "TOP") top × (option_map (λ f. f.now) folder ≡ first_of (codes "folder") given)
-    × SpellsOr given (codes "threads") threads × IsPaceOf given pace × IsFlagOf given (codes "progress") progress × IsFlagOf given (codes "estimate") estimate
+IsRequestOf name given (Build q) = (name ≡ codes "build") × Spells given (codes "TOP") q.top × (option_map (λ f. f.now) q.folder ≡ first_of (codes "folder") given)
+    × SpellsOr given (codes "threads") q.threads × IsPaceOf given q.pace × IsFlagOf given (codes "progress") q.progress × IsFlagOf given (codes "estimate") q.estimate
 IsRequestOf name given (Migrate from to) = (name ≡ codes "migrate") × Gives given (codes "FROM") from.now × Gives given (codes "TO") to.now
 IsRequestOf name given (Rank board) = (name ≡ codes "rank") × Gives given (codes "BOARD") board.now
 IsRequestOf name given (Board level rank) = (name ≡ codes "board") × Spells given (codes "LEVEL") level × Spells given (codes "RANK") rank

@@ -76,7 +76,7 @@ pub(crate) fn progress<'a>(alloc: Global) -> Arg<'a>
     Arg::new(alloc, "progress")
         .long("progress")
         .action(ArgAction::SetTrue)
-        .help("Tell on the error stream how far it is")
+        .help("Print on the error stream how far it is")
 }
 
 pub(crate) fn threads<'a>(alloc: Global) -> Arg<'a>
@@ -123,7 +123,7 @@ pub(crate) fn sweeps<'a>(alloc: Global) -> Arg<'a>
         .value_name("S")
         .value_parser(ValueParser::unsigned(1, u64::from(MOST_SWEEPS)))
         .default_value("1000")
-        .help("Most sweeps in a round, 1 to 1000")
+        .help("The most sweeps in a round, 1 to 1000")
 }
 
 pub(crate) fn with_boards<'a>(alloc: Global) -> Arg<'a>
@@ -167,7 +167,7 @@ pub(crate) fn replies<'a>(alloc: Global) -> Arg<'a>
     Arg::new(alloc, "replies")
         .long("replies")
         .action(ArgAction::SetTrue)
-        .help("Tell of the replies that each move leaves")
+        .help("Add the replies that each move leaves")
 }
 
 pub(crate) fn json<'a>(alloc: Global) -> Arg<'a>

@@ -121,7 +121,7 @@ fn check_command<'a>(alloc: Global) -> Result<Command<'a>, AllocError>
     new_command(
         alloc,
         "check",
-        "Says of tables on standard input whether each is right",
+        "Checks tables from standard input",
         CHECK_HELP,
     )
 }
@@ -145,7 +145,7 @@ fn judge_command<'a>(alloc: Global) -> Result<Command<'a>, AllocError>
     let command = new_command(
         alloc,
         "judge",
-        "Plays moves, and says where that stands",
+        "Plays moves, and prints how the play stands",
         JUDGE_HELP,
     );
     let command = with_word(command, board(alloc));
@@ -188,7 +188,7 @@ fn verify_command<'a>(alloc: Global) -> Result<Command<'a>, AllocError>
     let command = new_command(
         alloc,
         "verify",
-        "Says of the levels in a folder whether each is right",
+        "Verifies the levels in a folder",
         VERIFY_HELP,
     );
     let command = with_word(command, folder(alloc));
@@ -217,7 +217,7 @@ fn migrate_command<'a>(alloc: Global) -> Result<Command<'a>, AllocError>
     let command = new_command(
         alloc,
         "migrate",
-        "Brings the levels of older files over into another folder",
+        "Converts older files, into another folder",
         MIGRATE_HELP,
     );
     let command = with_word(command, from(alloc));
@@ -301,7 +301,7 @@ fn rank_command<'a>(alloc: Global) -> Result<Command<'a>, AllocError>
     let command = new_command(
         alloc,
         "rank",
-        "Says which number a board has in its level",
+        "Prints the rank of a board in its level",
         RANK_HELP,
     );
     with_word(command, board(alloc))
@@ -313,7 +313,7 @@ fn board_command<'a>(alloc: Global) -> Result<Command<'a>, AllocError>
     let command = new_command(
         alloc,
         "board",
-        "Prints the board that has this number in a level",
+        "Prints the board of this rank in a level",
         BOARD_HELP,
     );
     let command = with_word(command, ranked_level(alloc));
@@ -326,7 +326,7 @@ fn plays_command<'a>(alloc: Global) -> Result<Command<'a>, AllocError>
     let command = new_command(
         alloc,
         "plays",
-        "Counts the plays of so many plies from a board",
+        "Counts the plays of PLIES plies from a board",
         PLAYS_HELP,
     );
     let command = with_word(command, board(alloc));
@@ -339,7 +339,7 @@ fn counts_command<'a>(alloc: Global) -> Result<Command<'a>, AllocError>
     let command = new_command(
         alloc,
         "counts",
-        "Says how many boards of the levels in a folder are won and lost",
+        "Counts the won, even and lost boards of each level",
         COUNTS_HELP,
     );
     let command = with_word(command, folder(alloc));
@@ -356,7 +356,7 @@ fn boards_command<'a>(alloc: Global) -> Result<Command<'a>, AllocError>
     let command = new_command(
         alloc,
         "boards",
-        "Prints the boards of a level that have what is asked for",
+        "Prints the boards of a level that match all options",
         BOARDS_HELP,
     );
     let command = with_word(command, folder(alloc));
@@ -390,11 +390,11 @@ fn with_choices<'a>(
     let farthest = flag(
         alloc,
         "farthest",
-        "Of these, boards of the greatest distance",
+        "Of these, those of the greatest distance",
     );
     let command = with_word(command, farthest);
     let command = with_word(command, every(alloc));
-    let random = number_or_none(alloc, "random", "So many of these, by chance; 0 is all");
+    let random = number_or_none(alloc, "random", "N of these, drawn by chance; 0 is all");
     let command = with_word(command, random);
     let seed = number_or_none(alloc, "seed", "The number that decides which are drawn");
     with_word(command, seed)
@@ -408,7 +408,7 @@ fn with_order<'a>(
     ensures { (app : App) → MakesApp command.entry app → MakesApp result (with_words app order) }
 {
     let command = with_word(command, sort(alloc));
-    let most = number_or_none(alloc, "most", "The first so many of these; 0 is all");
+    let most = number_or_none(alloc, "most", "The first N of these; 0 is all");
     with_word(command, most)
 }
 
@@ -463,7 +463,7 @@ fn with_entry_spans<'a>(
     let captures = span(
         alloc,
         "captures",
-        "Boards whose plan captures so many stones",
+        "Boards whose plan captures A to B stones",
     );
     with_word(command, captures)
 }
@@ -478,17 +478,21 @@ fn with_count_spans<'a>(
     let side = span(
         alloc,
         "side",
-        "Boards with so many stones on the mover's side",
+        "Boards with A to B stones on the mover's side",
     );
     let command = with_word(command, side);
-    let moves = span(alloc, "moves", "Boards with so many legal moves");
+    let moves = span(alloc, "moves", "Boards with A to B legal moves");
     let command = with_word(command, moves);
-    let keep = span(alloc, "keep", "Boards where so many moves keep the value");
+    let keep = span(
+        alloc,
+        "keep",
+        "Boards with A to B moves that keep the value",
+    );
     let command = with_word(command, keep);
     let trap = span(
         alloc,
         "trap",
-        "Boards where the largest capture loses so many stones",
+        "Boards whose largest capture loses A to B stones",
     );
     with_word(command, trap)
 }
@@ -503,11 +507,11 @@ fn with_kinds<'a>(
     let waits = flag(
         alloc,
         "waits",
-        "Boards where it is worth less to move than to wait",
+        "Zugzwang: boards on which waiting would be worth more",
     );
     let command = with_word(command, waits);
-    let ended = flag(alloc, "ended", "Boards where the play has ended");
+    let ended = flag(alloc, "ended", "Boards that have ended");
     let command = with_word(command, ended);
-    let open = flag(alloc, "open", "Boards where the play has not ended");
+    let open = flag(alloc, "open", "Boards that have not ended");
     with_word(command, open)
 }

@@ -114,8 +114,8 @@ It prints a line for each pit that the mover may play, the lowest first:
 
     pit P captures C value V distance D
 
-V is the stones that the move captures, C, less the value of the board left. In
-at most D plies a capture or the end comes while the side that V favours follows
+V is the stones that the move captures, C, less the value of the board left. A
+capture or the end comes within D plies, if the side that is ahead follows
 the plans. The plan's line ends in ` plan`. If the play has ended, it prints
 `ended G`, what the mover gains by that. With --replies ` replies R keep K`
 follows D: of R legal moves of the board left, K gain what it is worth. The
@@ -146,8 +146,8 @@ refusal printed last; with --unverified none is built. Each line is answered:
 It ends at `quit` or with the input. examples/ask_many.py asks many boards.";
 
 pub const RANK_HELP: &str = "\
-It prints `L R`: the board has L stones, and R is its number among the boards of
-as many. These are numbered from 0 on, in lexicographic order of their pits 0 to
+It prints `L R`: the board has L stones, and R is its rank among the boards with
+L stones. These are numbered from 0 on, in lexicographic order of their pits 0 to
 11. `awari board L R` gives the board back.
 
 The status is 0, or 1 for a refusal, as `refused 59 NotYet levels 25` if the
@@ -168,12 +168,13 @@ It prints one line, of all plays that have PLIES plies, each ply a legal move:
 
 There are N such plays. The last ply of C of them captures, and after E of them
 the play has ended. A play that has ended sooner has fewer plies, so it counts
-for none of these. From the board at the start, 4,4,4,4,4,4/4,4,4,4,4,4, there
+in none of these. From the board at the start, 4,4,4,4,4,4/4,4,4,4,4,4, there
 are 6 plays of one ply, 36 of two and 1014 of four: docs/RULES.md has more, by
-which any two programs can compare their rules.
+which programs can compare their rules.
 
-Each ply takes some four times as long. The status is 0, or 1 for a refusal, as
-`refused 94 Overflow` if N is 2^64 or more. docs/FORMATS.md lists them.";
+Each ply takes some five times as long, and four times the memory. The status is
+0, or 1 for a refusal, as `refused 94 Overflow` if N is 2^64 or more.
+docs/FORMATS.md lists them.";
 
 pub const COUNTS_HELP: &str = "\
 It prints a line for each level, the lowest first, as build does. With LEVEL it
@@ -187,7 +188,7 @@ prints this level's line, and then how many boards have each value and distance:
 docs/FORMATS.md lists the refusals, as `refused 96 Column` of another word.";
 
 pub const BOARDS_HELP: &str = "\
-It prints a line for each board that has all that is asked for, by rank:
+It prints a line for each board that matches all options, by rank:
 
     BOARD V P D    the board, its value, a pit to play or -, and its distance
 

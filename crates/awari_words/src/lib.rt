@@ -25,4 +25,4 @@ mod requests;
 
 pub use joining::joined;
 pub use laws::worked_words;
-pub use requests::{Question, Request, request_of, understand};
+pub use requests::{BuildQuery, Question, Request, request_of, understand};

@@ -23,7 +23,10 @@ ghost use Rattle.awari_words.specs.Requests.{
 
 use crate::commands::commands;
 use awari_pace::Pace;
-use awari_queries::{BoardSpans, BoardsQuery};
+use awari_queries::{
+    AskQuery, BoardSpans, BoardsQuery, CountsQuery, LineQuery, MovesQuery, ServeQuery, TextQuery,
+    VerifyQuery,
+};
 use clap::{ArgMatches, Error};
 use std::alloc::Global;
 use std::convert::AsStr;
@@ -47,14 +50,7 @@ pub enum Request<'m, 'a> {
     },
     /// `build TOP [--folder FOLDER] [--progress] [--estimate] [--threads N] [--owners W] [--room R]
     /// [--sweeps S]`: the levels up to this one, or what they take.
-    Build {
-        top: u8,
-        folder: Option<&'a str>,
-        threads: Option<u8>,
-        pace: Pace,
-        progress: bool,
-        estimate: bool,
-    },
+    Build(BuildQuery<'a>),
     /// `migrate FROM TO`: the levels of a folder brought over into another one.
     Migrate {
         from: &'a str,
@@ -81,58 +77,43 @@ pub enum Request<'m, 'a> {
     },
 }
 
+/// Which levels are built, and how.
+#[derive(Clone, Copy)]
+pub struct BuildQuery<'a> {
+    /// The highest of them.
+    pub top: u8,
+    /// The name of the folder in which they are built, if one is named.
+    pub folder: Option<&'a str>,
+    /// How many threads build a level without owners; as many as there are processors if it is not said.
+    pub threads: Option<u8>,
+    /// How many owners build a level, and how they share the work.
+    pub pace: Pace,
+    /// Whether the error stream is told how far it is.
+    pub progress: bool,
+    /// Whether nothing is built, and the error stream is told what it would take.
+    pub estimate: bool,
+}
+
 /// What is asked of the levels in a folder.
 #[derive(Clone, Copy)]
 pub enum Question<'a> {
     /// `verify FOLDER [--levels TOP] [--digest HEX] [--progress]`: whether they are right.
-    Verify {
-        levels: Option<u8>,
-        digest: Option<&'a str>,
-        progress: bool,
-    },
+    Verify(VerifyQuery<'a>),
     /// `text FOLDER [LEVEL] [--boards]`: their text, or that of one.
-    Text {
-        level: Option<u8>,
-        boards: bool,
-    },
+    Text(TextQuery),
     /// `ask FOLDER BOARD [--json] [--unverified]`: the entry of a board.
-    Ask {
-        board: &'a str,
-        json: bool,
-        unverified: bool,
-    },
+    Ask(AskQuery<'a>),
     /// `moves FOLDER BOARD [--replies] [--json] [--unverified]`: what each legal move of a board is worth.
-    Moves {
-        board: &'a str,
-        replies: bool,
-        json: bool,
-        unverified: bool,
-    },
+    Moves(MovesQuery<'a>),
     /// `line FOLDER BOARD [--longest] [--plies] [--json] [--unverified]`: the play from a board in which
     /// both sides follow the plans, or one side holds out.
-    Line {
-        board: &'a str,
-        longest: bool,
-        plies: bool,
-        json: bool,
-        unverified: bool,
-    },
+    Line(LineQuery<'a>),
     /// `serve FOLDER [TOP [OWNERS]] [--unverified]`: the answers to lines, while levels are built if the
     /// folder's are verified.
-    Serve {
-        top: u8,
-        owners: u8,
-        unverified: bool,
-    },
+    Serve(ServeQuery),
     /// `counts FOLDER [LEVEL] [--by COLUMN,COLUMN] [--csv] [--json] [--unverified]`: the levels in numbers,
     /// or one.
-    Counts {
-        level: Option<u8>,
-        by: Option<&'a str>,
-        json: bool,
-        csv: bool,
-        unverified: bool,
-    },
+    Counts(CountsQuery<'a>),
     /// `boards FOLDER LEVEL [--value A..B] [--distance A..B] [--plan A..B] [--captures A..B]
     /// [--side A..B] [--moves A..B] [--keep A..B] [--trap A..B] [--waits] [--ended] [--open]
     /// [--farthest] [--every K] [--random N] [--seed N] [--sort [-]COLUMN] [--most N] [--with-moves]
@@ -216,14 +197,14 @@ fn build_request<'m, 'a: 'm>(given: &'m ArgMatches<'a>) -> Option<Request<'m, 'a
     ensures asked { IfSome result (IsRequestOf (codes "build") (values given.now)) }
     ensures none { IsNone result → SpellsNone 8 (values given.now) (codes "TOP") ⊎ IsNoPace (values given.now) }
 {
-    Some(Request::Build {
+    Some(Request::Build(BuildQuery {
         top: byte(given, "TOP")?,
         folder: text(given, "folder"),
         threads: byte(given, "threads"),
         pace: pace_of(given)?,
         progress: flag(given, "progress"),
         estimate: flag(given, "estimate"),
-    })
+    }))
 }
 
 fn verify_request<'m, 'a: 'm>(given: &'m ArgMatches<'a>) -> Option<Request<'m, 'a>>
@@ -232,11 +213,11 @@ fn verify_request<'m, 'a: 'm>(given: &'m ArgMatches<'a>) -> Option<Request<'m, '
 {
     Some(Request::Read {
         folder: text(given, "FOLDER")?,
-        question: Question::Verify {
+        question: Question::Verify(VerifyQuery {
             levels: byte(given, "levels"),
             digest: text(given, "digest"),
             progress: flag(given, "progress"),
-        },
+        }),
     })
 }
 
@@ -246,10 +227,10 @@ fn text_request<'m, 'a: 'm>(given: &'m ArgMatches<'a>) -> Option<Request<'m, 'a>
 {
     Some(Request::Read {
         folder: text(given, "FOLDER")?,
-        question: Question::Text {
+        question: Question::Text(TextQuery {
             level: byte(given, "LEVEL"),
             boards: flag(given, "boards"),
-        },
+        }),
     })
 }
 
@@ -269,11 +250,11 @@ fn ask_request<'m, 'a: 'm>(given: &'m ArgMatches<'a>) -> Option<Request<'m, 'a>>
 {
     Some(Request::Read {
         folder: text(given, "FOLDER")?,
-        question: Question::Ask {
+        question: Question::Ask(AskQuery {
             board: text(given, "BOARD")?,
             json: flag(given, "json"),
             unverified: flag(given, "unverified"),
-        },
+        }),
     })
 }
 
@@ -283,12 +264,12 @@ fn moves_request<'m, 'a: 'm>(given: &'m ArgMatches<'a>) -> Option<Request<'m, 'a
 {
     Some(Request::Read {
         folder: text(given, "FOLDER")?,
-        question: Question::Moves {
+        question: Question::Moves(MovesQuery {
             board: text(given, "BOARD")?,
             replies: flag(given, "replies"),
             json: flag(given, "json"),
             unverified: flag(given, "unverified"),
-        },
+        }),
     })
 }
 
@@ -298,13 +279,13 @@ fn line_request<'m, 'a: 'm>(given: &'m ArgMatches<'a>) -> Option<Request<'m, 'a>
 {
     Some(Request::Read {
         folder: text(given, "FOLDER")?,
-        question: Question::Line {
+        question: Question::Line(LineQuery {
             board: text(given, "BOARD")?,
             longest: flag(given, "longest"),
             plies: flag(given, "plies"),
             json: flag(given, "json"),
             unverified: flag(given, "unverified"),
-        },
+        }),
     })
 }
 
@@ -314,11 +295,11 @@ fn serve_request<'m, 'a: 'm>(given: &'m ArgMatches<'a>) -> Option<Request<'m, 'a
 {
     Some(Request::Read {
         folder: text(given, "FOLDER")?,
-        question: Question::Serve {
+        question: Question::Serve(ServeQuery {
             top: byte(given, "TOP")?,
             owners: byte(given, "OWNERS")?,
             unverified: flag(given, "unverified"),
-        },
+        }),
     })
 }
 
@@ -357,13 +338,13 @@ fn counts_request<'m, 'a: 'm>(given: &'m ArgMatches<'a>) -> Option<Request<'m, '
 {
     Some(Request::Read {
         folder: text(given, "FOLDER")?,
-        question: Question::Counts {
+        question: Question::Counts(CountsQuery {
             level: byte(given, "LEVEL"),
             by: text(given, "by"),
             json: flag(given, "json"),
             csv: flag(given, "csv"),
             unverified: flag(given, "unverified"),
-        },
+        }),
     })
 }
 

@@ -9,6 +9,6 @@ returns-clause-kept g c = λ kept.
 
 pub returns-clause-built : goal.returns-clause-built
 returns-clause-built g c = λ done.
-    built_lines g.H.Host.keeps c.args.asked.build.top c.args.asked.folder.now (g.H.Host.holds c.args.host.now) (g.H.Host.holds c.close-2.new.self)
+    built_lines g.H.Host.keeps c.args.asked.build.query.top c.args.asked.folder.now (g.H.Host.holds c.args.host.now) (g.H.Host.holds c.close-2.new.self)
     (g.H.Folder.Folder.state c.open-folder.result).stands (g.H.Folder.Folder.state c.lock.new.folder).stands (g.H.Folder.Folder.state c.run_build_of-status.new.folder).stands _ _
     c.open-folder.ensures.opened c.lock.ensures c.close-2.ensures.closed (c.run_build_of-status.ensures.built done)

@@ -12,7 +12,7 @@ returns-then-query-clause-found g c = λ done.
         opened = said.opened;
         framed = said.framed;
         known = said.known;
-        said = λ images says. appended c.args.query.now c.in-Ok.pair c.form_of-form.result c.in-Some.level images _ _ c.in-Ok.ensures.asked c.form_of-form.ensures (said.said images says);
+        said = λ images says. appended c.args.query.now c.in-Some-by.by c.in-Ok.pair c.form_of-form.result c.in-Some.level images _ _ c.in-Some-by.is c.in-Ok.ensures.asked c.form_of-form.ensures (said.said images says);
       };
     })
 
@@ -25,6 +25,6 @@ returns-in-Ok-print_pairs_on-clause-found g c = λ done.
       images = images;
       stored = c.in-Ok-load_to.ensures.levels;
       printed =
-          appended c.args.query.now c.in-Ok.pair c.form_of-form.result c.in-Some.level images _ _ c.in-Ok.ensures.asked c.form_of-form.ensures
+          appended c.args.query.now c.in-Some-by.by c.in-Ok.pair c.form_of-form.result c.in-Some.level images _ _ c.in-Some-by.is c.in-Ok.ensures.asked c.form_of-form.ensures
           (c.in-Ok-print_pairs_on.ensures (ap (λ b. Ok b) (c.status_of.ensures.written.0 done)));
     })

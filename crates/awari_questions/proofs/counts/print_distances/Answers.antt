@@ -15,7 +15,7 @@ loop-place-preserved-then-boards-eq0 g c = λ entries are.
 pub loop-place-preserved : goal.loop-place-preserved
 loop-place-preserved g c = λ entries are.
     shared-line (shown_distance c.args.json) (boards_of_distance entries) c.loop-place.place _ _ _ _ (c.loop-place.invariant entries are)
-    (are.each c.loop-place.place (omega (arith, c.loop-place-test.true))) (omega arith) (c.print.ensures c.if-not-print.false)
+    (are.each c.loop-place.place (omega (arith, c.loop-place-test.true))) (omega arith) (c.print_distance.ensures c.if-not-print_distance.false)
 
 pub returns : goal.returns
 returns g c = λ entries are _. distant-all _ entries _ _ _ _ (omega arith) (c.loop-place.invariant entries are)

@@ -2,7 +2,8 @@ use Rattle.std.proofs.Common.{List}
 use Rattle.std.specs.Io.KnownBytes.{Appends}
 use Rattle.std.specs.List.{flat_map, range_with_len}
 use Rattle.awari_table.specs.declared.images.Entry.{Entry}
-use Rattle.awari_questions.specs.Counts.{boards_of_distance, share_line, shown_distance}
+use Rattle.awari_members.specs.Members.{share_line}
+use Rattle.awari_questions.specs.Counts.{boards_of_distance, shown_distance}
 use Rattle.awari_questions.specs.Tallies.{AreByDistance}
 use Rattle.awari_questions.proofs.counts.print_distances.Given as goal
 

@@ -15,7 +15,7 @@ loop-number-preserved g c =
       unchanged = unchanged_then _ _ _ i.unchanged c.in-Ok.ensures.same;
       lines = λ images says.
           level-line c.args.json images c.loop-number.number c.in-Ok.numbers _ _ _ (c.in-Ok.ensures.said images (says_still c.args.source _ _ images i.unchanged.stands says)) (i.lines images says)
-          (c.print.ensures c.if-not-print.false);
+          (c.print_level.ensures c.if-not-print_level.false);
     }
 
 pub returns-clause-printed : goal.returns-clause-printed

@@ -11,5 +11,5 @@ returns g c = λ image are done.
     let limited = subst (λ l. AreByDistance l image.entries c.as_slice.result.now) (sym are.told.limit) counts in
     let lines = subst (λ l. Appends (g.W.Write.contents c.print_values.new.writer) (g.W.Write.contents c.print_distances.new.writer) (distance_lines c.args.json l image.entries)) are.told.limit
     (c.print_distances.ensures image.entries limited done) in
-    counted-all _ image _ _ _ _ _ (shown_is _ image c.args.numbers.now.told are.told) (c.print.ensures c.if-not-print.false)
+    counted-all _ image _ _ _ _ _ (shown_is _ image c.args.numbers.now.told are.told) (c.print_level.ensures c.if-not-print_level.false)
     (c.print_values.ensures image.entries are.tally.values c.if-not-print_values.false) lines

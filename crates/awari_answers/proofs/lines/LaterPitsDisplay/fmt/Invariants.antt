@@ -1,9 +1,0 @@
-use Rattle.std.proofs.Common.{take}
-use Rattle.std.specs.Fmt.{HasWritten, IsPlainFormatter}
-use Rattle.awari_answers.specs.Lines.{later_pits}
-use Rattle.awari_answers.proofs.lines.LaterPitsDisplay.fmt.Given as goal
-
-abbrev pub invariant-loop-pit : goal.invariant-loop-pit
-invariant-loop-pit g l =
-    IsPlainFormatter l.initial.f
-    → HasWritten g.W.Write.write_str_gives l.initial.f (later_pits (take l.pit-index l.pit-items)) l.f

@@ -1,0 +1,94 @@
+-- Lines that are lists of members: a member has a name and a value.
+use Rattle.std.specs.Prelude.{ℕ, ◌==◌, if◌then◌else◌, List, [], ◌∷◌, ◌++◌, map, codes, ℤ}
+use Rattle.std.specs.Fmt.{decimal, signed_decimal}
+use Rattle.std.specs.List.{flat_map}
+use Rattle.awari_board.specs.Text.{text_of}
+use Rattle.awari_play.specs.Json.{array, commas, member, object, quoted}
+use Rattle.awari_queries.specs.declared.boards.Form.{Form}
+use Rattle.awari_queries.specs.declared.boards.Form.TheVariants.{Text, Csv, Json}
+use Rattle.awari_members.specs.declared.lines.Member.{Member}
+use Rattle.awari_members.specs.declared.values.Value.{Value}
+use Rattle.awari_members.specs.declared.values.Value.TheVariants as value
+
+-- a name, and a value in each form
+pub record Named : Type 0 where
+  pub name : List ℕ
+  pub value : Form → List ℕ
+
+-- a text, which is a string in JSON
+abbrev pub string : List ℕ → Form → List ℕ
+string text Json = quoted text
+string text form = text
+
+-- pits as an array
+abbrev pub pits_in : List ℕ → Form → List ℕ
+pits_in pits form = array (map decimal pits)
+
+-- what stands for no value
+abbrev pub missing : Form → List ℕ
+missing Text = codes "-"
+missing Csv = []
+missing Json = codes "null"
+
+-- members with a number, with a number that has a sign, with a text, with a board, and with pits
+abbrev pub number : List ℕ → ℕ → Named
+number name n = record { name = name; value = λ form. decimal n }
+
+abbrev pub signed : List ℕ → ℤ → Named
+signed name n = record { name = name; value = λ form. signed_decimal n }
+
+abbrev pub board : List ℕ → List ℕ → Named
+board name pits = record { name = name; value = string (text_of pits) }
+
+abbrev pub text : List ℕ → List ℕ → Named
+text name bytes = record { name = name; value = string bytes }
+
+abbrev pub pits : List ℕ → List ℕ → Named
+pits name moves = record { name = name; value = pits_in moves }
+
+abbrev pub value_text : Value → Form → List ℕ
+value_text (value.Number n) = λ form. decimal n
+value_text (value.Signed n) = λ form. signed_decimal n
+value_text (value.Text text) = string text.now
+value_text (value.Board pits) = string (text_of pits)
+value_text (value.Pits pits) = pits_in pits.now
+value_text value.Missing = missing
+
+abbrev pub said : Member → Named
+said m = record { name = m.name.now; value = value_text m.value }
+
+-- a name and a value with a space (32) between them, the value alone, or a member of an object
+abbrev pub member_text : Form → Named → List ℕ
+member_text Text m = m.name ++ 32 ∷ m.value Text
+member_text Csv m = m.value Csv
+member_text Json m = member m.name (m.value Json)
+
+-- texts with spaces between them
+abbrev pub spaced : List (List ℕ) → List ℕ
+spaced [] = []
+spaced (text ∷ texts) = text ++ flat_map (λ t. 32 ∷ t) texts
+
+-- Names and values with spaces, values with commas, or an object: all of one list, in its order.
+unfoldable pub line_text : Form → List Named → List ℕ
+line_text Text members = spaced (map (member_text Text) members)
+line_text Csv members = commas (map (member_text Csv) members)
+line_text Json members = object (map (member_text Json) members)
+
+-- the line of so many boards, if there are any
+abbrev pub share_line : (ℕ → List ℕ) → ℕ → List ℕ
+share_line shown boards = if boards == 0 then [] else shown boards ++ 10 ∷ []
+
+-- Fronts of these texts. Private functions alone go by them: no public contract does.
+abbrev pub later_members : Form → List ℕ → List Member → List ℕ
+later_members form mark members = flat_map (λ m. mark ++ member_text form (said m)) members
+
+abbrev pub joined_members : Form → List ℕ → List Member → List ℕ
+joined_members form mark [] = []
+joined_members form mark (m ∷ members) = member_text form (said m) ++ later_members form mark members
+
+abbrev pub later_pits : List ℕ → List ℕ
+later_pits pits = flat_map (λ pit. codes "," ++ decimal pit) pits
+
+abbrev pub pits_text : List ℕ → List ℕ
+pits_text [] = []
+pits_text (pit ∷ pits) = decimal pit ++ later_pits pits

@@ -1,0 +1,19 @@
+//! Lines that are lists of members. A member has a name and a value. Such a line is printed in one of three
+//! forms: names and values with spaces between them, values with commas, or a JSON object. All forms are of one
+//! list, so the object has the names of the line, in its order.
+//!
+//! Members as a line or as an object, in `crates/awari_answers/src/printing.rt`:
+//!
+//!     pub fn print_members<W: Write>(members: &[Member<'_>], json: bool, writer: &mut W) -> bool
+//!         ensures { result ≡ true → Appends (W.contents writer.old) (W.contents writer.new) (line_text (form_of json false) (map said members.now) ++ 10 ∷ []) }
+//!     {
+//!         let form = form_of(json, false);
+//!         print(writer, &Line { members, form })
+//!     }
+#![tactic(auto)]
+
+mod lines;
+mod values;
+
+pub use lines::{Line, Member};
+pub use values::Value;

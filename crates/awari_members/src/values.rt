@@ -1,0 +1,93 @@
+//! The values of members.
+
+ghost use Rattle.std.specs.Prelude.{◌≡◌};
+
+use awari_board::Board;
+use awari_queries::Form;
+use std::fmt;
+
+/// The value of a member.
+#[derive(Clone, Copy)]
+pub enum Value<'a> {
+    /// A number.
+    Number(u64),
+    /// A number with a sign.
+    Signed(i64),
+    /// A text of bytes that stand for themselves in JSON.
+    Text(&'a str),
+    /// A board.
+    Board(Board),
+    /// Pits that are played one after the other.
+    Pits(&'a [u8]),
+    /// There is none.
+    Missing,
+}
+
+/// A value in a form.
+#[derive(Clone, Copy)]
+pub(crate) struct InForm<'a>(pub(crate) &'a Value<'a>, pub(crate) Form);
+
+impl fmt::Display for InForm<'_> {
+    ghost use Rattle.std.specs.Prelude.{Some};
+    ghost use Rattle.awari_members.specs.Members.{value_text};
+
+    ghost output = { λ shown. Some (value_text shown.0.now shown.1) };
+
+    fn fmt<W: fmt::Write>(&self, f: &mut fmt::Formatter<W>) -> fmt::Result {
+        let InForm(value, form) = *self;
+        match *value {
+            Value::Number(number) => write!(f, "{number}"),
+            Value::Signed(number) => write!(f, "{number}"),
+            Value::Text(text) => match form {
+                Form::Json => write!(f, "\"{text}\""),
+                Form::Text | Form::Csv => write!(f, "{text}"),
+            },
+            Value::Board(board) => match form {
+                Form::Json => write!(f, "\"{board}\""),
+                Form::Text | Form::Csv => write!(f, "{board}"),
+            },
+            Value::Pits(pits) => write!(f, "[{}]", Pits(pits)),
+            Value::Missing => match form {
+                Form::Text => write!(f, "-"),
+                Form::Csv => write!(f, ""),
+                Form::Json => write!(f, "null"),
+            },
+        }
+    }
+}
+
+/// Pits with commas between them.
+#[derive(Clone, Copy)]
+struct Pits<'a>(&'a [u8]);
+
+impl fmt::Display for Pits<'_> {
+    ghost use Rattle.std.specs.Prelude.{Some};
+    ghost use Rattle.awari_members.specs.Members.{pits_text};
+
+    ghost output = { λ pits. Some (pits_text pits.0.now) };
+
+    fn fmt<W: fmt::Write>(&self, f: &mut fmt::Formatter<W>) -> fmt::Result {
+        match self.0 {
+            [] => Ok(()),
+            [first, later @ ..] => write!(f, "{first}{}", LaterPits(later)),
+        }
+    }
+}
+
+/// Pits behind another. Each is printed after a comma.
+#[derive(Clone, Copy)]
+struct LaterPits<'a>(&'a [u8]);
+
+impl fmt::Display for LaterPits<'_> {
+    ghost use Rattle.std.specs.Prelude.{Some};
+    ghost use Rattle.awari_members.specs.Members.{later_pits};
+
+    ghost output = { λ pits. Some (later_pits pits.0.now) };
+
+    fn fmt<W: fmt::Write>(&self, f: &mut fmt::Formatter<W>) -> fmt::Result {
+        for pit in self.0 {
+            write!(f, ",{pit}")?;
+        }
+        Ok(())
+    }
+}
