@@ -147,8 +147,8 @@ It ends at `quit` or with the input. examples/ask_many.py asks many boards.";
 
 pub const RANK_HELP: &str = "\
 It prints `L R`: the board has L stones, and R is its rank among the boards with
-L stones. These are numbered from 0 on, in lexicographic order of their pits 0 to
-11. `awari board L R` gives the board back.
+L stones. These are numbered from 0 on, in lexicographic order of their pits 0
+to 11. `awari board L R` gives the board back.
 
 The status is 0, or 1 for a refusal, as `refused 59 NotYet levels 25` if the
 board has more than 24 stones. docs/FORMATS.md lists them.";
