@@ -38,7 +38,7 @@ fn next_place(place: usize, dist: u32, boards: &[Board]) -> usize {
     if next < boards.len() { next } else { 0 }
 }
 
-/// Looks each board up on the shelf, so many times.
+/// Looks each board up on the shelf, this many times.
 fn entries_of(shelf: &Shelf, boards: &[Board], rounds: u32) -> Counted {
     let mut counted = Counted::NONE;
     let mut place = 0;
@@ -52,7 +52,7 @@ fn entries_of(shelf: &Shelf, boards: &[Board], rounds: u32) -> Counted {
     counted
 }
 
-/// Asks the reader for each board, so many times.
+/// Asks the reader for each board, this many times.
 fn asks_of(reader: &mut Reader, boards: &[Board], rounds: u32) -> Counted {
     let mut counted = Counted::NONE;
     let mut place = 0;

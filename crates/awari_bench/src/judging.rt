@@ -23,7 +23,7 @@ pub(crate) enum Work {
     Lower,
 }
 
-/// Builds the levels, and does the work with each so many times. Counts how often it went well, and
+/// Builds the levels, and does the work with each this many times. Counts how often it went well, and
 /// the boards of these levels.
 pub(crate) fn each_level(alloc: Global, work: Work, rounds: u32) -> io::Result<Counted> {
     let mut counted = Counted::NONE;

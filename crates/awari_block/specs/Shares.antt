@@ -3,7 +3,7 @@ use Rattle.std.specs.Prelude.{ℕ, ◌+◌, ◌-◌, ◌*◌, ◌/◌, ◌≤◌
 use Rattle.awari_rank.specs.Rank.{size_of}
 use Rattle.awari_block.specs.declared.blocks.Block.{Block}
 
--- Of so many boards each owner has as many, the last ones fewer or none where they don't divide. This is the rank of an
+-- Of this many boards each owner has as many, the last ones fewer or none where they don't divide. This is the rank of an
 -- owner's first board, or the number of boards where there is none.
 abbrev pub first_rank : ℕ → ℕ → ℕ → ℕ
 first_rank boards owners owner = min (owner * ((boards + (owners - 1)) / owners)) boards

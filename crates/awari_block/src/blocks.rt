@@ -34,7 +34,7 @@ impl Block {
     }
 }
 
-/// The rank of the first board of an owner's block, if so many boards are shared out in blocks of one
+/// The rank of the first board of an owner's block, if this many boards are shared out in blocks of one
 /// length. It is the number of boards if the owner has none.
 fn first_rank(boards: u32, owners: u8, owner: u8) -> u32
     requires some { 1 ≤ owners }
@@ -46,7 +46,7 @@ fn first_rank(boards: u32, owners: u8, owner: u8) -> u32
     (u64::from(owner) * u64::from(length)).min(u64::from(boards)) as u32
 }
 
-/// How many boards a block has, if so many boards are shared out among so many owners. Only the last
+/// How many boards a block has, if this many boards are shared out among this many owners. Only the last
 /// blocks may have fewer. Condition: there is at least one owner.
 pub fn block_length(boards: u32, owners: u8) -> u32
     requires some { 1 ≤ owners }

@@ -183,7 +183,7 @@ impl<F: FreshSet> Boards<F> {
     /// The board of this rank hears that its quiet move from `pit` leads to a board that is won or
     /// lost, at the open gain and wave. This may settle it, and then it joins the fresh ones. Conditions:
     /// the board is in the block, the pit is below 6, a gain is open, and the open wave is not the
-    /// greatest u32. Where its set has no room for it nothing changes.
+    /// greatest u32. If its set has no room for it nothing changes.
     #[inline(always)]
     pub fn hear(&mut self, target: u32, pit: u8, kind: Kind) -> Result<(), AllocError>
         requires { CanHear self.old target pit }
@@ -214,7 +214,7 @@ impl<F: FreshSet> Boards<F> {
     }
 
     /// Opens the next smaller gain. The boards that an end or a capture settles at that gain are
-    /// settled, and so become fresh. Conditions: the gain is at least 1, and no board is fresh. Where
+    /// settled, and so become fresh. Conditions: the gain is at least 1, and no board is fresh. If
     /// their set has no room for one of them the level is lost.
     pub fn open_gain(&mut self, gain: u8) -> Result<(), AllocError>
         requires idle { self.old.fresh ≡ [] }
@@ -303,7 +303,7 @@ impl<F: FreshSet> Boards<F> {
         self.cells[index as usize] = cell;
     }
 
-    /// Replaces the cell of the board of this rank. A board that this settles becomes fresh. Where its set
+    /// Replaces the cell of the board of this rank. A board that this settles becomes fresh. If its set
     /// has no room for it nothing changes.
     #[inline(always)]
     fn put(&mut self, rank: u32, cell: Cell) -> Result<(), AllocError>
@@ -329,7 +329,7 @@ impl<F: FreshSet> Boards<F> {
 
 impl<F: ByKind> Boards<F> {
     /// Moves the fresh boards of the open wave that are lost, or those that are won, behind others: those
-    /// whose notes are of this kind. Refused where there is no room for them there, and then nothing changes.
+    /// whose notes are of this kind. Refused if there is no room for them there, and then nothing changes.
     pub fn give(&mut self, kind: Kind, to: &mut Vec<u32>) -> Result<(), AllocError>
         ensures given { OnOk result ((given : List ℕ) × (to.new.items ≡ to.old.items ++ given) × GivesFresh kind self.old self.new given) }
         ensures fresh { AreFresh self.old }

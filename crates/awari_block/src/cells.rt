@@ -172,7 +172,7 @@ impl Cell {
         }
     }
 
-    /// The gain whose opening may settle the board, in a level of so many stones: that of its end, or
+    /// The gain whose opening may settle the board, in a level with this many stones: that of its end, or
     /// what its best capture gains or loses. None if the board is settled, or has neither.
     pub fn awaited_gain(&self, level: u8) -> Option<u8>
         requires low { level ≤ 24 }

@@ -23,13 +23,13 @@ pub trait FreshSet: Drop {
     /// What holds if a board found no room. If ⊥, each finds some.
     ghost lacks: { Type 0 };
 
-    /// None of so many boards. Refused only if memory runs out.
+    /// None of this many boards. Refused only if memory runs out.
     fn new(alloc: Global, boards: usize) -> Result<Self, AllocError>
         requires { boards < 2 ^ 32 }
         ensures right { IfOk result (λ fresh. (wave start : ℕ) (cells : List CellView) → length cells ≡ boards → right wave start cells fresh) }
         ensures none { IfOk result (λ fresh. (start : ℕ) (cells : List CellView) → dues start cells fresh ≡ []) };
 
-    /// The board of this rank, at this index of its block, becomes fresh, as it gets this cell. Where it is
+    /// The board of this rank, at this index of its block, becomes fresh, as it gets this cell. If it is
     /// refused they stay as they were.
     fn insert(&mut self, wave: u32, rank: u32, index: u32, cell: Cell) -> Result<(), AllocError>
         requires new { (start : ℕ) × (cells : List CellView) × IsNewTo dues right wave start cells self.old rank index cell }
@@ -44,7 +44,7 @@ pub trait FreshSet: Drop {
         ensures right { (from start : ℕ) → right from start cells.now self.old → right wave start cells.now self.new }
         ensures same { (start : ℕ) (cells : List CellView) → dues start cells self.new ≡ dues start cells self.old };
 
-    /// Laws, and no code. Where none is fresh, any wave may be the open one. What cells say of boards that
+    /// Laws, and no code. If none is fresh, any wave may be the open one. What cells say of boards that
     /// are not fresh does not matter.
     fn depend_on_their_cells()
         ensures idle { (from wave start : ℕ) (cells : List CellView) (fresh : Self) → dues start cells fresh ≡ [] → right from start cells fresh → right wave start cells fresh }
@@ -55,7 +55,7 @@ pub trait FreshSet: Drop {
 /// Fresh boards that are kept by kind: lost and won ones apart.
 pub trait ByKind: FreshSet {
     /// Moves those of this wave whose notes are of this kind behind others, and answers how many they are.
-    /// Refused where there is no room for them there, and then nothing changes.
+    /// Refused if there is no room for them there, and then nothing changes.
     fn give(&mut self, kind: Kind, wave: u32, to: &mut Vec<u32>) -> Result<usize, AllocError>
         ensures given { IfOk result (λ count. (given : List ℕ) × (to.new.items ≡ to.old.items ++ given) × (count ≡ length given) × GivesAway Self.dues Self.right kind wave self.old self.new given) }
         ensures refused { OnErr result (self.new ≡ self.old) };

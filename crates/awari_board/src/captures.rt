@@ -56,7 +56,7 @@ fn take_run(pits: &mut [u8; 12], last: u8) -> u8
     taken
 }
 
-/// Whether a pit of so many stones can be captured.
+/// Whether a pit with this many stones can be captured.
 fn is_takeable(stones: u8) -> bool
     ensures { result ≡ is_takeable stones }
 {

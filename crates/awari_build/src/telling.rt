@@ -11,7 +11,7 @@ use awari_heard::{Progress, Told};
 use awari_phase::PhaseFault;
 use awari_rank::size;
 
-/// Tells that the level of so many stones begins.
+/// Tells that the level with this many stones begins.
 pub(crate) fn begin<P: Progress>(progress: &mut P, level: u8)
     requires { level ≤ 24 }
     ensures { P.hears progress.old (Told.Begun level (size_of level)) progress.new }

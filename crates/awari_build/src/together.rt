@@ -24,7 +24,7 @@ const MOST_MEMBERS: u8 = 16;
 /// some minutes, and no member is away so long.
 const PATIENCE: u64 = 1073741824;
 
-/// The shelf's next level, built by so many threads at most. It always returns. Refused as 51
+/// The shelf's next level, built by this many threads at most. It always returns. Refused as 51
 /// `TooHigh` if the shelf has all levels, and as 53 `Memory` if memory runs out. It takes memory for
 /// nine bytes a board, for the boards that are settled and not spread yet and their notes, and for
 /// the entries.

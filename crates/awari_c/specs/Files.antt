@@ -57,7 +57,7 @@ AreFilesOf files levels = (i : ℕ) → i < length files → IsFileOfLevel i (sl
 abbrev pub AreSized : List (List ℕ) → ℕ → Type 0
 AreSized files count = (i : ℕ) → i < count → IsSized i (slice_index_or files i [])
 
--- The answer for a board of so many stones by these files: 0 if they are all there up to its level, each as long as it should be.
+-- The answer for a board with this many stones by these files: 0 if they are all there up to its level, each as long as it should be.
 pub record IsFilesAnswer (stones : ℕ) (files : List (List ℕ)) (answer : ℕ) : Type 0 where
   pub many : 48 < stones → answer ≡ 3
   pub high : stones ≤ 48 → (24 < stones) ⊎ (length files ≤ stones) → answer ≡ 59

@@ -44,7 +44,7 @@ pub extern "C" fn awari_rank(pits: &[u8; 12], level: &mut u8, place: &mut u32) -
     place_of(pits, level, place)
 }
 
-/// The board of a rank in a level, and 0; or 59 if the level is above 24, or 93 if it has not so many
+/// The board of a rank in a level, and 0; or 59 if the level is above 24, or 93 if it has fewer
 /// boards.
 #[unsafe(no_mangle)]
 pub extern "C" fn awari_board(level: u8, place: u32, pits: &mut [u8; 12]) -> u8

@@ -141,7 +141,7 @@ fn move_by(files: &[&[u8]], board: &Board, pit: u8) -> PlainMove
     told_worth(worth_by(pit, moved.captured, entry))
 }
 
-/// What a move is worth that captures so many stones and leaves a board of this entry.
+/// What a move is worth that captures this many stones and leaves a board of this entry.
 fn worth_by(pit: u8, captured: u8, entry: PlainEntry) -> MoveWorth
     ensures pit { result.pit ≡ pit }
     ensures captured { result.captured ≡ captured }

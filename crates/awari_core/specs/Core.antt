@@ -62,7 +62,7 @@ coming_to sender j = notes_of (ring_to sender j).batches ++ notes_of (queue_to s
 abbrev pub coming : Core → ℕ → ℕ → List Note
 coming core i j = coming_to (sender_at core i) j
 
--- What owner i of so many sends by: it has its number, and a queue and a ring of this room for each owner. Batches on a ring have
+-- What owner i of this many sends by: it has its number, and a queue and a ring of this room for each owner. Batches on a ring have
 -- 1 to 32 notes, as those in outboxes have.
 pub record IsLinked (owners room i : ℕ) (sender : Sender) : Type 0 where
   pub owner : sender.outboxes.owner ≡ i
@@ -103,7 +103,7 @@ IsAllQuiet core = All (λ (part : Part). part.fresh ≡ []) core.parts × IsAllT
 abbrev pub IsWaveDone : Core → Type 0
 IsWaveDone core = All (λ (part : Part). Any (λ f. due_dist f ≡ part.wave) part.fresh → ⊥) core.parts × IsAllTaken core
 
--- this is the least distance of a fresh board of the first so many parts, or none where there is none
+-- this is the least distance of a fresh board of the first this many parts, or none where there is none
 abbrev pub IsLeastOf : List Part → ℕ → Option ℕ → Type 0
 IsLeastOf parts count None = (i : ℕ) → i < count → (slice_index_or parts i no_part).fresh ≡ []
 IsLeastOf parts count (Some dist) =
@@ -144,7 +144,7 @@ AreOwners owners = (1 ≤ owners) × (owners ≤ 16)
 abbrev pub IsRingRoom : ℕ → Type 0
 IsRingRoom room = (1 ≤ room) × (room ≤ 256)
 
--- so many owners, whose parts of the shelf's next level were scanned, and nothing is on its way
+-- this many owners, whose parts of the shelf's next level were scanned, and nothing is on its way
 pub record IsScannedCore (shelf : List Image) (owners room : ℕ) (core : Core) : Type 0 where
   pub over : core.shelf ≡ shelf
   pub rooms : core.room ≡ room
@@ -254,8 +254,8 @@ IsEventFault core event NotEnabled = IsEnabled core event → ⊥
 IsEventFault core (Spread i) Memory = IsEnabled core (Spread i) × (1 < length core.parts)
 IsEventFault core event fault = ⊥
 
--- A core takes these events one after the other, passing over those that are refused, and then is the last core: so many were
--- taken, and so many refused. Each core on the way is sound.
+-- A core takes these events one after the other, passing over those that are refused, and then is the last core: this many were
+-- taken, and this many refused. Each core on the way is sound.
 abbrev pub Runs : Core → List Event → Core → ℕ → ℕ → Type 0
 Runs old [] new taken refused = (new ≡ old) × (taken ≡ 0) × (refused ≡ 0)
 Runs old (event ∷ events) new taken refused =

@@ -12,7 +12,7 @@ use awari_owner::Part;
 use awari_table::Shelf;
 use std::alloc::{AllocError, Global};
 
-/// The parts of the shelf's next level, one for each of so many owners.
+/// The parts of the shelf's next level, one for each of this many owners.
 pub fn scanned_parts(alloc: Global, shelf: &Shelf, owners: u8) -> Result<Vec<Part>, AllocError>
     requires owners { (1 ≤ owners) × (owners ≤ 16) }
     requires low { length shelf.now ≤ HIGHEST_LEVEL }

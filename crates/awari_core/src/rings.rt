@@ -8,7 +8,7 @@ use std::alloc::{AllocError, Global};
 use std::collections::VecDeque;
 use std::marker::Model;
 
-/// A ring from one owner to another, with room for so many batches.
+/// A ring from one owner to another, with room for this many batches.
 #[derive(Drop)]
 pub struct Ring {
     batches: VecDeque<Batch>,

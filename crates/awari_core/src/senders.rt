@@ -97,7 +97,7 @@ pub fn are_silent(senders: &[Sender]) -> bool
     senders.iter().all(Sender::is_silent)
 }
 
-/// The outboxes and rings of so many owners, with nothing to send.
+/// The outboxes and rings of this many owners, with nothing to send.
 pub fn silent_senders(alloc: Global, owners: u8, room: u32) -> Result<Vec<Sender>, AllocError>
     requires owners { (1 ≤ owners) × (owners ≤ 16) }
     ensures count { IfOk result (λ senders. vec_len senders ≡ owners) }

@@ -1,4 +1,4 @@
--- The segments of a level, each within one multiple of so many boards. Private functions alone go by this.
+-- The segments of a level, each within one multiple of this many boards. Private functions alone go by this.
 use Rattle.std.specs.Prelude.{◌≡◌, ℕ, ◌/◌, List}
 use Rattle.awari_block.specs.Notes.{Has}
 use Rattle.awari_block.specs.Part.{Part, InBlock}

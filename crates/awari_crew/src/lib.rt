@@ -8,7 +8,7 @@
 //! once a level.
 //!
 //! How to think of it. Each contract speaks of one member: what it told is what its spread boards say, and
-//! its cells are a tally of what it heard (`specs/Members.antt`). That holds whatever the others do. A member
+//! its cells are a tally of what it heard (`specs/Members.antt`). This holds whatever the others do. A member
 //! looks at each note before it hears it: whether the board is its own, and whether the move was heard. So
 //! nothing has to be known of the sender. Once all members are home, the rings are looked at: if each letter
 //! was heard, all spread boards were heard of. A member that hears what does not fit, or waits in vain,

@@ -74,7 +74,7 @@ impl Task {
     }
 }
 
-/// So many members of a crew on one grid.
+/// This many members of a crew on one grid.
 pub(crate) fn crew(alloc: Global, task: &Task, members: u8) -> Result<Vec<Member>, Halt>
     requires members { (1 ≤ members) × (members ≤ 16) }
     ensures { IfOk result (λ all. AreCrew task.now.shelf task.now.log all.items) }

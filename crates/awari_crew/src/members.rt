@@ -20,7 +20,7 @@ use awari_waves::{Chunk, Finder, Row, Segment, find_row};
 use std::alloc::Global;
 use std::sync::Arc;
 
-/// A member spreads so many boards in a turn, or a few more: those of a segment are spread together.
+/// A member spreads this many boards in a turn, or a few more: those of a segment are spread together.
 const BOARDS_A_TURN: usize = 65536;
 
 /// No level takes as many turns.
@@ -207,7 +207,7 @@ impl Member {
     }
 }
 
-/// Tells that so many boards were spread as this is opened, and asks whether the level is still wanted.
+/// Tells that this many boards were spread as this is opened, and asks whether the level is still wanted.
 fn is_wanted_at<P: Progress>(stake: Stake, boards: usize, progress: &mut P) -> bool
     ensures { result ≡ false → P.stops }
 {

@@ -7,7 +7,7 @@ use crate::halts::Halt;
 use awari_block::{Kind, Stake};
 use awari_waves::{Chunk, Segment};
 
-/// Moves fresh boards of the open wave from the segments into the chunk, until it has so many. True if
+/// Moves fresh boards of the open wave from the segments into the chunk, until it has this many. True if
 /// it passed over segments, so that boards of the wave may be left. Refused as `Unfit` if a segment has
 /// other than this stake, and as `Memory`; then the level is lost.
 pub fn take_boards(

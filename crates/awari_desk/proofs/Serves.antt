@@ -57,11 +57,11 @@ pub nothing_in : (Q : List ℕ → Type 0) (had has : Option (List ℕ)) (taken 
 nothing_in Q had has taken buf count zero c e q =
     (nothing_comes had has (subst (λ (n : ℕ). Consumes had has (take n buf)) zero c) e, subst Q (sym (append-nil taken)) q)
 
--- so many came at most
+-- this many came at most
 pub few_taken : (buf : List ℕ) (count left : ℕ) → count ≤ left → length (take count buf) ≤ left
 few_taken buf count left low = let short = few_came buf count in omega (arith, short, low)
 
--- what stands within so many bytes of what is left stands within so many more of the whole input
+-- what stands within this many bytes of what is left stands within this many more of the whole input
 within : (old had : Option (List ℕ)) (taken : List ℕ) (left most : ℕ) → Consumes old had taken → length taken + left ≡ most → (front behind : List ℕ) → IsInput had (front ++ behind) → length front ≤ left
     → IsInput old ((taken ++ front) ++ behind) × (length (taken ++ front) ≤ most)
 within old had taken left most consumed sum front behind is few = (

@@ -17,7 +17,7 @@ use thiserror::Error;
 pub enum DeskFault {
     /// 71: the level is not the next of the book.
     NotNext,
-    /// 72: there is no place for so many readers, or for one more.
+    /// 72: there is no place for this many readers, or for one more.
     Readers,
     /// 73: memory ran out, or a level could not be shared, in this call or in an earlier publication.
     Memory,

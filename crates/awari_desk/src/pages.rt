@@ -79,7 +79,7 @@ impl Pages {
     }
 }
 
-/// So many readers that have seen nothing yet.
+/// This many readers that have seen nothing yet.
 pub(crate) fn new_readers(
     alloc: Global,
     pages: &Pages,

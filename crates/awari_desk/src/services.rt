@@ -20,7 +20,7 @@ pub const LONGEST_INPUT: u32 = 100_000_000;
 /// How many bytes the input is asked for at once.
 const BUFFER_LEN: usize = 4096;
 
-/// Writes the bytes. Where the writer refuses, it took a front of them.
+/// Writes the bytes. If the writer refuses, it took a front of them.
 fn put<W: Write>(output: &mut Counted<W>, bytes: &[u8]) -> Result<(), ServeFault>
     ensures wrote { OnOk result (Appends (W.contents (inner_of output.old)) (W.contents (inner_of output.new)) bytes.now) }
     ensures partly { OnErr result ((front rest : List ℕ) × (bytes.now ≡ front ++ rest)
@@ -39,7 +39,7 @@ fn put<W: Write>(output: &mut Counted<W>, bytes: &[u8]) -> Result<(), ServeFault
     Ok(())
 }
 
-/// Writes the bytes and has them passed on. Where the writer refuses, it took a front of them.
+/// Writes the bytes and has them passed on. If the writer refuses, it took a front of them.
 fn send<W: Write>(output: &mut Counted<W>, bytes: &[u8]) -> Result<(), ServeFault>
     ensures wrote { OnOk result (Appends (W.contents (inner_of output.old)) (W.contents (inner_of output.new)) bytes.now) }
     ensures partly { OnErr result ((front rest : List ℕ) × (bytes.now ≡ front ++ rest)

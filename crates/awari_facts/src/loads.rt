@@ -1,9 +1,9 @@
 //! The levels in a folder, up to one that has to be there.
 
-ghost use Rattle.std.specs.Prelude.{◌≡◌, ◌<◌, ◌≤◌, ◌+◌, ℕ, List, Option, IfOk, min};
+ghost use Rattle.std.specs.Prelude.{◌≡◌, ◌<◌, ◌≤◌, ◌+◌, ℕ, List, Option, IfErr, IfOk, min};
 ghost use Rattle.awari_folder.specs.Contents.{AreNames, Same};
 ghost use Rattle.awari_places.specs.Opening.{AreFramed};
-ghost use Rattle.awari_facts.specs.Loads.{HasLevel};
+ghost use Rattle.awari_facts.specs.Loads.{HasLevel, IsNoFolder, IsNoLevel};
 ghost use Rattle.awari_table.specs.declared.TheConstants.{HIGHEST_LEVEL};
 
 use awari_answers::{NoAnswer, load_levels};
@@ -22,6 +22,7 @@ pub fn load_to<T: Threads + Sync, F: Folder>(
     level: u8,
 ) -> Result<Shelf, NoAnswer>
     ensures levels { IfOk result (HasLevel level (F.state folder.old).stands) }
+    ensures fault { IfErr result (IsNoLevel level) }
     ensures same { Same (F.state folder.old).stands (F.state folder.new).stands }
 {
     let shelf = load_levels(rt, alloc, folder, level)?;
@@ -38,6 +39,7 @@ pub fn load_to<T: Threads + Sync, F: Folder>(
 pub fn open_to<F: Folder>(folder: &mut F, level: u8) -> Result<Opened, NoAnswer>
     ensures framed { IfOk result (λ opened. (names : ℕ → Option (List ℕ)) → AreNames (F.state folder.old).stands names → AreFramed (min level HIGHEST_LEVEL) names opened) }
     ensures known { IfOk result (λ opened. level < opened.levels) }
+    ensures fault { IfErr result (IsNoLevel level) }
     ensures few { IfOk result (λ opened. opened.levels ≤ HIGHEST_LEVEL + 1) }
     ensures same { Same (F.state folder.old).stands (F.state folder.new).stands }
 {
@@ -53,6 +55,7 @@ pub fn open_to<F: Folder>(folder: &mut F, level: u8) -> Result<Opened, NoAnswer>
 /// All levels in a folder, by the headers of their files. It is refused as [`open_levels`] is.
 pub fn open_all<F: Folder>(folder: &mut F) -> Result<Opened, NoAnswer>
     ensures framed { IfOk result (λ opened. (names : ℕ → Option (List ℕ)) → AreNames (F.state folder.old).stands names → AreFramed HIGHEST_LEVEL names opened) }
+    ensures fault { IfErr result IsNoFolder }
     ensures few { IfOk result (λ opened. opened.levels ≤ HIGHEST_LEVEL + 1) }
     ensures same { Same (F.state folder.old).stands (F.state folder.new).stands }
 {

@@ -58,7 +58,7 @@ fn is_at_end<R: Read>(reader: &mut Counted<R>) -> Result<bool, FileFault>
     }
 }
 
-/// Whether the reader has so many entries of a level next, from this rank on. They fit the buffer, and
+/// Whether the reader has this many entries of a level next, from this rank on. They fit the buffer, and
 /// are hashed if it has them.
 fn has_run<R: Read>(
     reader: &mut Counted<R>,

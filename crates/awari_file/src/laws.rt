@@ -17,7 +17,7 @@ pub fn files_tell_images_apart()
 {}
 
 /// The entries that are read at once are 680, or all if there are fewer: a file that begins right has a
-/// right header, and so many right entries.
+/// right header, and this many right entries.
 pub fn first_entries_are_680()
     ensures { (bytes : List ℕ) → BeginsRight bytes → (header : AHeader) × (rest : List ℕ) × (header_at Truncated bytes ≡ Ok (header, rest))
         × IsOk (entries_at (min (size_of header.level) 680) Truncated rest) }

@@ -104,7 +104,7 @@ fn add_entries(
     added
 }
 
-/// So many entries of those that are left, and nothing behind them. They fit the buffer.
+/// This many entries of those that are left, and nothing behind them. They fit the buffer.
 fn read_some<R: Read>(
     alloc: Global,
     reader: &mut Counted<R>,

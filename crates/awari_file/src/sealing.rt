@@ -99,7 +99,7 @@ fn hash_entries(hasher: &mut Sha256, entries: &Entries)
     }
 }
 
-/// Hashes so many entries from this rank on. They fit the buffer.
+/// Hashes this many entries from this rank on. They fit the buffer.
 fn hash_run(hasher: &mut Sha256, entries: &Entries, from: usize, count: usize)
     requires within { from + count ≤ length entries.now }
     requires few { count ≤ BUFFERED }

@@ -84,7 +84,7 @@ pub(crate) fn spell(entries: &[Entry], buf: &mut [u8; 4080]) -> usize
     len
 }
 
-/// Spells so many entries of a level, from this rank on, and gives how many bytes of the buffer they
+/// Spells this many entries of a level, from this rank on, and gives how many bytes of the buffer they
 /// take. They fit it.
 pub(crate) fn spell_run(level: &Level, from: u32, count: u32, buf: &mut [u8; 4080]) -> usize
     requires within { from + count ≤ size_of level.now.level }
@@ -99,7 +99,7 @@ pub(crate) fn spell_run(level: &Level, from: u32, count: u32, buf: &mut [u8; 408
     spell(run, buf)
 }
 
-/// Writes so many entries of a level, from this rank on. They fit the buffer.
+/// Writes this many entries of a level, from this rank on. They fit the buffer.
 fn put_run<W: Write>(
     writer: &mut Counted<W>,
     hasher: &mut Sha256,

@@ -53,7 +53,7 @@ fn loaded(
     Ok((stored.shelf.levels(), stored.digest))
 }
 
-/// The folder is loaded as one of so many levels, of which the last one's file ends in this digest.
+/// The folder is loaded as one of this many levels, of which the last one's file ends in this digest.
 fn expect_levels(
     rt: &(impl Files<File = File> + AllocGlobal + Abort),
     folder: &str,
@@ -133,7 +133,7 @@ fn expect_file(
     Ok(())
 }
 
-/// The folder has so many files.
+/// The folder has this many files.
 fn expect_count(
     rt: &(impl Files + AllocGlobal + Clone + Abort),
     folder: &str,

@@ -159,7 +159,7 @@ fn newest(puts: &[Put], level: u8) -> Option<&[u8]>
     None
 }
 
-/// Copies the bytes from a place on, if there are so many.
+/// Copies the bytes from a place on, if there are that many.
 fn copy_at(bytes: &[u8], place: u64, room: &mut [u8])
     ensures { place + length room.new ≤ length bytes.now → room.new ≡ take (length room.new) (drop place bytes.now) }
 {

@@ -151,7 +151,7 @@ fn a_fault_of_the_bytes_comes_before_the_readers(rt: HostRuntime) {
     }
 }
 
-/// Reads the bytes, where the 100th call is interrupted so many times in a row.
+/// Reads the bytes, where the 100th call is interrupted this many times in a row.
 fn interrupted_read(alloc: Global, bytes: &[u8], times: u32) -> (u8, u64) {
     let calls = Calls::new(100, times, Bad::Fault(ErrorKind::Interrupted));
     read_slowly(alloc, bytes, calls)

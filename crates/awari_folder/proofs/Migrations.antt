@@ -36,7 +36,7 @@ holds_same old new shelf digest same (names, are, held) = (names, λ n. same n �
 
 -- ---- all levels
 
--- How far a migration has come: so many levels, and from there on all names are as they were.
+-- How far a migration has come: this many levels, and from there on all names are as they were.
 pub record HasCome (names others : ℕ → Option (List ℕ)) (stands : ℕ → Option (Option (List ℕ))) (n : ℕ) (shelf : List Image) (below : List ℕ) (limits : List Limits) (digest : List ℕ) : Type 0 where
   pub migrated : MigrateLevels names n shelf below limits
   pub free : (i : ℕ) → i < n → others i ≡ None

@@ -32,8 +32,8 @@ Opens remaining None opened = ⊤
 Opens remaining (Some None) opened = IsNone opened
 Opens remaining (Some (Some bytes)) opened = IsSomeAnd opened (λ file. remaining file ≡ Some bytes)
 
--- What reading so many bytes at a place answers where it is known what has the name: none where no file has it, else how many bytes
--- the file has. Where it has so many there, these are they.
+-- What reading this many bytes at a place answers where it is known what has the name: none where no file has it, else how many bytes
+-- the file has. If it has that many there, these are they.
 abbrev pub Reads : Option (Option (List ℕ)) → ℕ → List ℕ → Option ℕ → Type 0
 Reads None place got read = ⊤
 Reads (Some None) place got read = IsNone read

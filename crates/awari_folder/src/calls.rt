@@ -43,7 +43,7 @@ pub trait Folder {
         ensures unchanged { Unchanged (state self.old) (state self.new) }
         ensures refused { Counts result (state self.old).refusals (state self.new).refusals };
 
-    /// How many bytes the file of a level has, if there is one. If so many are there from `place` on,
+    /// How many bytes the file of a level has, if there is one. If that many are there from `place` on,
     /// `room` is filled with them; otherwise nothing is said of `room`.
     fn read_at(&mut self, level: u8, place: u64, room: &mut [u8]) -> Result<Option<u64>, Refusal>
         requires { level ≤ HIGHEST_LEVEL }

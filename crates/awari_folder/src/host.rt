@@ -161,7 +161,7 @@ fn open_file<R: Files>(files: &R, path: Path<'_>) -> io::Result<R::File> {
     fs::open(files, path)
 }
 
-/// How many bytes a file has. If so many are there from `place` on, `room` is filled with them.
+/// How many bytes a file has. If that many are there from `place` on, `room` is filled with them.
 fn read_file<R: Files<File = File>>(
     files: &R,
     path: Path<'_>,
@@ -176,7 +176,7 @@ fn read_file<R: Files<File = File>>(
     Ok(length)
 }
 
-/// Whether a file of this length has so many bytes from a place on.
+/// Whether a file of this length has this many bytes from a place on.
 fn has_room(length: u64, place: u64, count: usize) -> bool
     ensures { IsTrue result ↔ (place + count ≤ length) }
 {

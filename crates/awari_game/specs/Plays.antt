@@ -43,7 +43,7 @@ abbrev pub Follows : (List ℕ → Option ℕ) → Bool → Standing → List �
 Follows plan first s [] = Unit {0}
 Follows plan first s (x ∷ xs) = (s.first_moves ≡ first → plan s.board ≡ Some x) × Follows plan first (after s x) xs
 
--- Every play that is longer than this comes to an outcome on the way.
+-- Every play that is longer than this comes to an outcome on the way. A yes does not use this.
 abbrev pub Ends : List ℕ → Type 0
 Ends p =
     (most : ℕ) (xs : List ℕ) (s : Standing)

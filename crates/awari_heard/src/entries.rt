@@ -49,7 +49,7 @@ pub fn kept_image(shelf: &Shelf, entries: Entries) -> Image
     }
 }
 
-/// The entries of closed parts, with room for so many boards. Each part is dropped before the next is
+/// The entries of closed parts, with room for this many boards. Each part is dropped before the next is
 /// begun.
 pub(crate) fn closed_entries(
     alloc: Global,

@@ -15,7 +15,7 @@ use rayon::join;
 use std::alloc::{AllocError, Global};
 use std::thread::Threads;
 
-/// Answers what [`finish_closed`](crate::finish_closed) does. So many threads at most, but at least
+/// Answers what [`finish_closed`](crate::finish_closed) does. This many threads at most, but at least
 /// one, each make the entries of a share of the parts, and start once. It also takes memory for three
 /// bytes a board of all shares but the first.
 pub fn finish_parallel<R: Threads + Sync>(
@@ -35,7 +35,7 @@ pub fn finish_parallel<R: Threads + Sync>(
     Ok(image)
 }
 
-/// The entries of these parts, with room for so many boards. A thread makes those of the last share, and
+/// The entries of these parts, with room for this many boards. A thread makes those of the last share, and
 /// one fewer those of the shares before it.
 #[cycle(shares)]
 fn entries_in_shares<R: Threads + Sync>(

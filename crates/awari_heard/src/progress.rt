@@ -5,9 +5,9 @@ ghost use Rattle.std.specs.Prelude.{◌≡◌, false};
 /// What is told of the build of a level.
 #[derive(Clone, Copy, Debug, PartialEq, Eq)]
 pub enum Told {
-    /// A level of so many stones begins, which has so many boards.
+    /// A level with this many stones begins, which has that many boards.
     Begun { level: usize, boards: usize },
-    /// This gain is open, and so many boards of the level are settled and were spread.
+    /// This gain is open, and this many boards of the level are settled and were spread.
     Settled { gain: usize, boards: usize },
     /// All gains are closed, and the entries are begun, with their plans.
     Planned,

@@ -33,7 +33,7 @@ impl Tails {
         Ok(Tails { boards, starts })
     }
 
-    /// The fillings of so many stones from number `from` on, at most `most` of them.
+    /// The fillings of this many stones from number `from` on, at most `most` of them.
     pub fn from(&self, stones: u8, from: usize, most: usize) -> &[PackedBoard]
         requires all { AreTailsAt stones self.now.starts.items self.now.boards.items }
         requires from { from < fillings self.now.starts.items stones }
@@ -46,7 +46,7 @@ impl Tails {
     }
 }
 
-/// Puts the fillings of so many stones behind the others.
+/// Puts the fillings of this many stones behind the others.
 fn push_tails(boards: &mut Vec<PackedBoard>, stones: u8) -> Result<(), AllocError>
     requires { stones ≤ 24 }
     ensures { OnOk result (PushesTails stones boards.old.items boards.new.items) }

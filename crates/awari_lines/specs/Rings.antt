@@ -111,7 +111,7 @@ module _ {T : Type 0} where
   abbrev pub IsUnused : Ends T → Type 0
   IsUnused e = (k : ℕ) → UnusedOn (slice_get e.pairs.items k)
 
-  -- both rings of a ring have room for so many items
+  -- both rings of a ring have room for this many items
   abbrev pub HasRoomOn : ℕ → Option (RingPair T) → Type 0
   HasRoomOn room None = Unit {0}
   HasRoomOn room (Some l) = (producer_capacity l.producer ≡ room) × (consumer_capacity l.consumer ≡ room)

@@ -74,7 +74,7 @@ line_text Text members = spaced (map (member_text Text) members)
 line_text Csv members = commas (map (member_text Csv) members)
 line_text Json members = object (map (member_text Json) members)
 
--- the line of so many boards, if there are any
+-- the line that this number of boards gets, none if it is 0
 abbrev pub share_line : (ℕ → List ℕ) → ℕ → List ℕ
 share_line shown boards = if boards == 0 then [] else shown boards ++ 10 ∷ []
 

@@ -17,7 +17,7 @@ hears_none part none = record {
   all_notes = λ p x q v d is stones in_p in_q quiet spread. absurd (false≢true (sym (ap is_some (sym spread.0 ∙ none (rank_of q) in_q))));
 }
 
--- the part of one owner of so many
+-- the part of one owner of this many
 pub scanned_owner : (value : List ℕ → ℤ) (n owners i first last : ℕ) (part : Part) → first ≡ first_rank (size_of n) owners i → last ≡ first_rank (size_of n) owners (i + 1) → IsScannedPart value n first last part → AreFresh part
     → IsScannedOwner value n owners i part
 scanned_owner value n owners i first last part start end is fresh = record {

@@ -7,7 +7,7 @@ use Rattle.awari_block.specs.Shares.{first_rank}
 use Rattle.awari_owner.specs.Sound.{OwnerSound}
 use Rattle.awari_block.specs.declared.notes.Note.{Note}
 
--- the part has the boards of owner i, of so many, of the level of n stones
+-- the part has the boards of owner i, of this many, of the level of n stones
 pub record IsShare (n owners i : ℕ) (part : Part) : Type 0 where
   pub level : part.level ≡ n
   pub start : part.start ≡ first_rank (size_of n) owners i

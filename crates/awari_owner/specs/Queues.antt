@@ -16,7 +16,7 @@ abbrev pub spare : List (List Note) → ℕ
 spare [] = 0
 spare (b ∷ rest) = spare_behind b rest
 
--- how many notes can be put behind these batches, where there are places for so many batches
+-- how many notes can be put behind these batches, where there are places for this many batches
 abbrev pub room_of : ℕ → List (List Note) → ℕ
 room_of places batches = 32 * (places - length batches) + spare batches
 

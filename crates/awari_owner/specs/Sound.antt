@@ -64,7 +64,7 @@ pub record OwnerSound (value : List ℕ → ℤ) (owner owners : ℕ) (part : Pa
   -- the fresh boards are settled ones of the open gain, each once
   pub fresh : AreFresh part
 
--- the part of this owner of so many, with no gain open
+-- the part of this owner of this many, with no gain open
 pub record IsScan (n owners owner : ℕ) (part : Part) : Type 0 where
   pub level : part.level ≡ n
   pub gain : part.gain ≡ n + 1

@@ -72,7 +72,7 @@ pub record Spreads (old new : Part) (q : List ℕ) (sources : List Source) : Typ
 
 -- ---- what is sent to other owners
 
--- whether the board of this rank is in the block of this owner, where so many boards are shared out
+-- whether the board of this rank is in the block of this owner, where this many boards are shared out
 abbrev pub is_in_block : ℕ → ℕ → ℕ → ℕ → Bool
 is_in_block boards owners owner rank = nat_le (first_rank boards owners owner) rank && nat_lt rank (first_rank boards owners (owner + 1))
 

@@ -88,7 +88,7 @@ impl Predecessors {
 }
 
 impl Lookahead {
-    /// Room for the boards that are spread next in a level of so many stones, at most 24, which has this
+    /// Room for the boards that are spread next in a level with this many stones, at most 24, which has this
     /// index. It takes 38 kilobytes, and is refused only if memory runs out.
     pub fn new(alloc: Global, level: u8, index: Index) -> Result<Lookahead, AllocError>
         requires low { level ≤ 24 }

@@ -13,7 +13,7 @@ use std::process::Abort;
 use std::sync::Arc;
 use std::test::Fail;
 
-/// The shelf's next level after so many slices of so many boards, none if it is not settled then.
+/// The shelf's next level after this many slices of that many boards, none if it is not settled then.
 fn image_after(
     alloc: Global,
     shelf: &Shelf,
@@ -31,7 +31,7 @@ fn image_after(
     Ok(Some(image))
 }
 
-/// Levels 0 to 6, each built in slices of so many boards, verified and counted.
+/// Levels 0 to 6, each built in slices of this many boards, verified and counted.
 fn expect_built_in_slices(rt: &impl Abort, alloc: Global, boards: usize) -> Result<(), Fail> {
     let mut shelf = Shelf::empty();
     for counts in &COUNTS[..7] {

@@ -23,7 +23,7 @@ pub const MOST_ROOM: u32 = 256;
 pub const MOST_SWEEPS: u32 = 1000;
 
 impl Pace {
-    /// The usual pace of so many owners: room for 64 batches, and 1000 sweeps a round. It takes no memory.
+    /// The usual pace of this many owners: room for 64 batches, and 1000 sweeps a round. It takes no memory.
     pub fn usual(owners: u8) -> Pace
         ensures { result ≡ record { owners = owners; room = 64; sweeps = 1000 } }
     {

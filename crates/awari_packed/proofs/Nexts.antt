@@ -55,7 +55,7 @@ mod_zeros n (suc m) i none here =
           ap (λ k. n / 2 ^ k % 2) (sym same) ∙ one_bit (n / 2 ^ m % 2) (2 ^ m) (pow_pos m) (omega arith)
     ]
 
--- so many bits lie after those of the last pit that holds stones
+-- this many bits lie after those of the last pit that holds stones
 pub record IsLastPlace (n place : ℕ) : Type 0 where
   pub few : place ≤ 50
   pub last : IsLastHeld (pits_of n) (11 - place / 5)
@@ -144,7 +144,7 @@ next_is n held s left w is last some held_is emptied rest =
           );
     }
 
--- the last pit that holds stones is at the bits that lie before so many
+-- the last pit that holds stones is at the bits that lie before this many
 held_at : (n place : ℕ) → place % 5 ≡ 0 → place ≤ 50 → n / 2 ^ place % 32 ≡ get_or (pits_of n) (11 - place / 5) 0
 held_at n place fives few =
     let at : place ≡ 55 - 5 * (11 - place / 5) = omega arith in

@@ -78,7 +78,7 @@ impl PackedBoard {
         ])
     }
 
-    /// The board of this rank among those with so many stones. Conditions: at most 24 stones, and a
+    /// The board of this rank among those with this many stones. Conditions: at most 24 stones, and a
     /// rank below the number of such boards.
     pub fn unrank(stones: u8, rank: u32) -> Self
         requires few { stones ≤ 24 }

@@ -68,7 +68,7 @@ fn take_run(bits: u64, last: u8) -> (u64, u8)
     (left, taken)
 }
 
-/// Whether a pit of so many stones can be captured.
+/// Whether a pit with this many stones can be captured.
 #[inline(always)]
 fn is_takeable(stones: u8) -> bool
     ensures { result ≡ is_takeable stones }

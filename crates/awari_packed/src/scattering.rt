@@ -5,7 +5,7 @@ ghost use Rattle.std.specs.List.{range_with_len};
 ghost use Rattle.awari_board.specs.Rules.{fallen, landing};
 ghost use Rattle.awari_packed.specs.Packed.{packed};
 
-/// Row `origin` has, at `stones`, the number to add for a sowing of so many stones.
+/// Row `origin` has, at `stones`, the number to add for a sowing of this many stones.
 static SCATTERED: [[u64; 25]; 6] = [
     [
         0,
@@ -193,7 +193,7 @@ static LAST: [[u8; 25]; 6] = [
     ],
 ];
 
-/// The number of a board on which so many stones from `origin` have fallen, and no others.
+/// The number of a board on which this many stones from `origin` have fallen, and no others.
 #[inline(always)]
 pub fn scattered(origin: u8, stones: u8) -> u64
     requires pit { origin < 6 }
@@ -203,7 +203,7 @@ pub fn scattered(origin: u8, stones: u8) -> u64
     SCATTERED[origin as usize][stones as usize]
 }
 
-/// Where the last of so many stones from `origin` falls.
+/// Where the last of this many stones from `origin` falls.
 #[inline(always)]
 pub fn last_of(origin: u8, stones: u8) -> u8
     requires pit { origin < 6 }

@@ -16,7 +16,7 @@ pub fn pit(bits: u64, i: u8) -> u8
     ((bits >> (55 - 5 * i)) % 32) as u8
 }
 
-/// The number with pit `i`, which holds so many stones, emptied.
+/// The number with pit `i`, which holds this many stones, emptied.
 #[inline(always)]
 pub fn without(bits: u64, i: u8, stones: u8) -> u64
     requires packing { IsPacking bits }
@@ -40,7 +40,7 @@ pub fn with_stone_moved(bits: u64, from: u8, to: u8) -> u64
     bits - (1 << (55 - 5 * from)) + (1 << (55 - 5 * to))
 }
 
-/// The number after the stones of pit `origin`, so many, are sown. It is one addition.
+/// The number after the stones of pit `origin`, this many, are sown. It is one addition.
 #[inline(always)]
 pub fn sow(bits: u64, origin: u8, stones: u8) -> u64
     requires packing { IsPacking bits }

@@ -61,7 +61,7 @@ pub record Spreads (old new : Option AnalysisView) (told : PlainDraft) (answer :
   pub begun : (draft : AnalysisView) → old ≡ Some draft
       → ((answer ≡ 0) × IsSomeAnd new (λ after. IsSlice draft after × TellsDraft after told)) ⊎ ((answer ≡ 53) × (new ≡ None))
 
--- What comes of finishing a level that is to have a file of so many bytes: 59 if none was begun or not all its gains are closed, 70
+-- What comes of finishing a level that is to have a file of this many bytes: 59 if none was begun or not all its gains are closed, 70
 -- if its file has another length, and 53 if memory ran out. It is begun no more after 0 and 53.
 pub record Finishes (levels : List Image) (old new : Option AnalysisView) (room answer : ℕ) : Type 0 where
   pub none : old ≡ None → (answer ≡ 59) × (new ≡ None)

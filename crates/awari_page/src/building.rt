@@ -41,7 +41,7 @@ pub extern "C" fn awari_begin(handle: &mut Handle, alloc: Global) -> u8
 }
 
 /// Builds a slice of the level that was begun, says in `out` how far it is, and answers 0: it spreads boards
-/// of one distance, about so many, or opens the next gain. It answers 59 if no level was begun, and 53 if
+/// of one distance, about this many, or opens the next gain. It answers 59 if no level was begun, and 53 if
 /// memory runs out; then the level is lost.
 #[unsafe(no_mangle)]
 pub extern "C" fn awari_spread(

@@ -23,7 +23,7 @@ use awari_owner::{Batch, Outboxes, OwnerFault, Part, take_batch};
 /// The most boards that a sweep spreads.
 pub const MOST_SPREADS: u32 = 64;
 
-/// To hear the notes of a batch is as much work as to spread so many boards.
+/// To hear the notes of a batch is as much work as to spread this many boards.
 const BOARDS_A_BATCH: usize = 4;
 
 /// One owner: its part of the level, its ends of the rings, and what it has still to send.
@@ -213,7 +213,7 @@ impl Owner {
         Ok(came || spread || went)
     }
 
-    /// Sweeps until a sweep finds nothing to do, at most so many times.
+    /// Sweeps until a sweep finds nothing to do, at most this many times.
     #[tactic(auto, using(crate::proofs::Stopping::stopping))]
     fn sweeps<G: Gate>(&mut self, gate: &G, most: u32) -> Result<(), OwnerFault>
         requires { 1 ≤ most }
@@ -230,7 +230,7 @@ impl Owner {
         Ok(())
     }
 
-    /// Sweeps until a sweep finds nothing to do, at most so many times, and keeps the fault that
+    /// Sweeps until a sweep finds nothing to do, at most this many times, and keeps the fault that
     /// came, if one did.
     #[tactic(auto, using(crate::proofs::Stopping::stopping))]
     pub(crate) fn work<G: Gate>(&mut self, gate: &G, most: u32)

@@ -31,8 +31,8 @@ const SWEEPS_IN_TURN: u32 = 16;
 /// does, and is refused as one is; then the owners are gone. If the owners were sound together, 42
 /// cannot occur.
 ///
-/// The first round is made in threads, and each other one in threads or in turn; docs/DECISIONS.md
-/// explains which. The first owner works on the caller's thread in either.
+/// The first round is made in threads, and each other one in threads or in turn: see
+/// `MUCH_WORK`. The first owner works on the caller's thread in either.
 pub fn gain_phase<R: Threads + Wait + Sync, G: Gate + Sync>(
     rt: &R,
     owners: Vec<Owner>,

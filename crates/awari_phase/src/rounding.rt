@@ -18,7 +18,7 @@ use awari_owner::{OwnerFault, coming_notes_are_expected, sound_parts_are_told};
 use std::sync::Wait;
 use std::thread::Threads;
 
-/// Each owner works in a thread of its own until it has nothing to do, or for so many sweeps, and
+/// Each owner works in a thread of its own until it has nothing to do, or for this many sweeps, and
 /// comes back to its place. Conditions: there are 1 to 1000 sweeps, and the owners stand on one grid.
 /// It takes memory for the threads, and each owner takes it for the notes that it has to send.
 ///

@@ -109,7 +109,7 @@ framed_now names level limit frame =
     is_ok (Ok m) n h = refl
     is_ok (Err e) n h = absurd cc
 
--- so many levels are there, and this is their greatest limit
+-- this many levels are there, and this is their greatest limit
 pub record AreThere (names : ℕ → Option (List ℕ)) (levels limit : ℕ) : Type 0 where
   pub each : (level : ℕ) → level < levels → IsFramed names level
   pub greatest : limit ≡ greatest_limit (images_in names levels)

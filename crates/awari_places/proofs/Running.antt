@@ -56,7 +56,7 @@ entry_read n k rank bytes room e long lt there is =
     ∙ ap (λ (l : List ℕ). entry_or_none (entry_of l)) (six_of n k (entry_place rank) bytes lt)
     ∙ ap (λ (m : ℕ). entry_or_none (entry_of (take 6 (drop m bytes)))) far
 
--- so many bytes were there, so these are the file's
+-- this many bytes were there, so these are the file's
 read_whole : (name : Option (List ℕ)) (place : ℕ) (room : List ℕ) (found : Option ℕ) → Reads (Some name) place room found → IsSomeAnd found (λ n. place + length room ≤ n)
     → (bytes : List ℕ) × (name ≡ Some bytes) × (room ≡ take (length room) (drop place bytes))
 read_whole name place room None reads long = absurd long

@@ -11,7 +11,7 @@ use Rattle.awari_folder.specs.declared.faults.FolderFault.TheVariants.{File, Ope
 use Rattle.awari_places.specs.declared.opening.Opened.{Opened}
 use Rattle.awari_places.specs.Places.{images_in}
 
--- What is answered of a level's file of so many bytes by its header: the limit that it says, or the first fault.
+-- What is answered of a level's file of this many bytes by its header: the limit that it says, or the first fault.
 abbrev pub framed_by : ℕ → ℕ → Result (Header × List ℕ) FileFault → Result ℕ FolderFault
 framed_by level size (Err fault) = Err (File level fault)
 framed_by level size (Ok found) =

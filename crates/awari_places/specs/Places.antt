@@ -38,11 +38,11 @@ image_in level (Some bytes) = record { level = level; limit = limit_in bytes; en
 abbrev pub image_named : (ℕ → Option (List ℕ)) → ℕ → Image
 image_named names level = image_in level (names level)
 
--- what the files of so many levels say, from level 0 on
+-- what the files of this many levels say, from level 0 on
 unfoldable pub images_in : (ℕ → Option (List ℕ)) → ℕ → List Image
 images_in names levels = map (image_named names) (range_with_len 0 levels)
 
--- It is known what has the names, and so many of the files say this.
+-- It is known what has the names, and this many of the files say this.
 pub record Says (stands : ℕ → Option (Option (List ℕ))) (levels : ℕ) (images : List Image) : Type 0 where
   pub names : ℕ → Option (List ℕ)
   pub known : AreNames stands names

@@ -49,7 +49,7 @@ fn entry_of_rank<F: Folder>(folder: &mut F, level: u8, rank: u32) -> Result<Entr
     }
 }
 
-/// The entry that these bytes say, which were read at a place of a level's file with so many bytes.
+/// The entry that these bytes say, which were read at a place of a level's file with this many bytes.
 fn read_entry(level: u8, place: u64, size: Option<u64>, bytes: &[u8]) -> Result<Entry, FolderFault>
     requires whole { length bytes.now ≡ 6 }
     requires low { place < 2 ^ 63 }

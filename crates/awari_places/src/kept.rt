@@ -15,7 +15,7 @@ pub struct Run {
     pub first: u32,
     /// How many there are.
     pub count: usize,
-    /// They are the first so many of these.
+    /// They are the first this many of these.
     pub entries: [Entry; RUN_LEN],
     ghost within: { count ≤ RUN_LEN },
 }

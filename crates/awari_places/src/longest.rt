@@ -137,7 +137,7 @@ fn stubborn_pit(seen: &Seen) -> Option<u8>
     None
 }
 
-/// Whether a move takes so many plies.
+/// Whether a move takes this many plies.
 fn takes(reached: Option<Reached>, plies: u32) -> bool
     ensures { (t : Table) (p : List ℕ) (x : ℕ) → Reaches t p x reached → IsTrue result ↔ TakesPlies t p x plies }
 {

@@ -101,7 +101,7 @@ fn frame_of<F: Folder>(folder: &mut F, level: u8) -> Result<Option<u32>, FolderF
     }
 }
 
-/// The limit in the header of a level's file that has so many bytes.
+/// The limit in the header of a level's file that has this many bytes.
 fn judge(level: u8, size: u64, front: &[u8]) -> Result<u32, FolderFault>
     requires { level ≤ HIGHEST_LEVEL }
     ensures exact { result ≡ framed_of level size front.now }

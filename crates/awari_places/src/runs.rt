@@ -93,7 +93,7 @@ fn fill<F: Folder>(folder: &mut F, run: &mut Run, level: u8, rank: u32) -> Resul
     }
 }
 
-/// The fault of a file that has so many bytes, or is gone, if it was to have so many.
+/// The fault of a file that has this many bytes, or is gone, if it was to have this many.
 fn fault_of_length(size: Option<u64>, whole: u64) -> Option<FileFault>
     ensures none { IsNone result → IsSomeAnd size (λ n. whole ≤ n) }
     ensures fault { IfSome result (λ fault. fault ≢ file_fault.Memory) }

@@ -2,7 +2,7 @@
 use Rattle.std.specs.Prelude.{◌≡◌, ℕ, ◌+◌, ◌<◌, ◌≤◌, ◌⊎◌, Bool, true, false, List}
 use Rattle.awari_board.specs.Tests.{is_legal}
 
--- The answer for a board of so many stones by so many levels: 0 if its level is there, and 3 or 59 if not.
+-- The answer for a board with this many stones by this many levels: 0 if its level is there, and 3 or 59 if not.
 pub record IsAnswer (stones levels answer : ℕ) : Type 0 where
   pub many : 48 < stones → answer ≡ 3
   pub known : stones ≤ 48 → stones < levels → answer ≡ 0

@@ -62,7 +62,7 @@ pub fn place_of(pits: &[u8; 12], level: &mut u8, place: &mut u32) -> u8
     0
 }
 
-/// The board of a rank in a level, and 0; or 59 if the level is above 24, or 93 if it has not so many
+/// The board of a rank in a level, and 0; or 59 if the level is above 24, or 93 if it has fewer
 /// boards.
 pub fn board_at(level: u8, place: u32, pits: &mut [u8; 12]) -> u8
     ensures answer { IsPlaceAnswer level place (size_of level) result }

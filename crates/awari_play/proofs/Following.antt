@@ -37,7 +37,7 @@ follows_more plan side (y ∷ xs) x from s play is follows = (follows.0, follows
 abbrev pub NoSooner : ℕ → List ℕ → List ℕ → Type 0
 NoSooner limit board moves = (n : ℕ) (s : Standing) (o : ℤ) → n < length moves → IsPlay (start board) (take n moves) s → IsOutcome limit s o → ⊥
 
--- Both sides have followed the plans so far, on boards of a shelf with so many levels, and no shorter beginning had an outcome.
+-- Both sides have followed the plans so far, on boards of a shelf with this many levels, and no shorter beginning had an outcome.
 pub record IsUnderWay (t : Table) (levels limit : ℕ) (board : List ℕ) (seen : Standing) (moves : List ℕ) : Type 0 where
   pub shows : Shows seen board moves
   pub known : sum seen.board < levels

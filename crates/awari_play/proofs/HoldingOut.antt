@@ -22,7 +22,7 @@ use Rattle.awari_play.specs.LongestLine.{HoldsLongest, HoldsOut, IsLongestLine, 
 
 -- ---- the pit that holds out longest
 
--- what a pit leads to says whether its move takes so many plies
+-- what a pit leads to says whether its move takes this many plies
 takes_by : (t : Table) (p : List ℕ) (x k : ℕ) (s : Reached) → Reaches t p x (Some s) → (s.plies ≡ k → TakesPlies t p x k) × (TakesPlies t p x k → s.plies ≡ k)
 takes_by t p x k s reaches = (
   (λ is. let (q, move, v, d) = reaches in (s.captured, q, move, sym d ∙ is)),
@@ -38,7 +38,7 @@ takes_is t p x k n s reaches same =
     let test = nat_eq_is s.plies n in
     ((λ sure. by.0 (test.0 sure ∙ same)), (λ takes. test.1 (by.1 takes ∙ sym same)))
 
--- no pit below this one takes so many plies
+-- no pit below this one takes this many plies
 pub record NoneTakes (t : Table) (p : List ℕ) (k x : ℕ) : Type 0 where
   pub none : (y : ℕ) → y < x → TakesPlies t p y k → ⊥
 
@@ -216,7 +216,7 @@ holds_more : (t : Table) (side : Bool) (xs : List ℕ) (x : ℕ) (from s : Stand
 holds_more t side [] x from s play is holds = (subst (λ (v : Standing). v.first_moves ≡ side → HoldsLongest t v.board x) play is, tt)
 holds_more t side (y ∷ xs) x from s play is holds = (holds.0, holds_more t side xs x (after from y) s play.1 is holds.1)
 
--- The play of a longest line after k plies, on boards of a table with so many levels.
+-- The play of a longest line after k plies, on boards of a table with this many levels.
 pub record IsHeld (t : Table) (levels k : ℕ) (board : List ℕ) (seen : Standing) (moves : List ℕ) : Type 0 where
   pub shows : Shows seen board moves
   pub size : length moves ≡ k

@@ -9,7 +9,7 @@ use Rattle.awari_table.specs.declared.rules.Reached.{Reached}
 use Rattle.awari_play.specs.Plan.{Serves, IsLowest}
 use Rattle.awari_play.specs.Planning.{Gains}
 
--- a move that takes so many plies leads to a smaller distance, or captures
+-- a move that takes this many plies leads to a smaller distance, or captures
 near_by : (c k d e : ℕ) → k ≡ plies c d → ((0 < c) ⊎ (k ≤ e)) ↔ ((0 < c) ⊎ (d < e))
 near_by zero k d e is = (
   λ near. elim near [ inl some ↦ inl some | inr few ↦ inr (omega (arith, is, few)) ],

@@ -17,7 +17,7 @@ name_and_fields Memory = codes "Memory"
 abbrev pub fault_text : LineFault → List ℕ
 fault_text fault = decimal (number_of fault) ++ codes " " ++ name_and_fields fault
 
--- The fault is the one for a board of so many stones, on a shelf of so many levels: want of memory only where the shelf has the
+-- The fault is the one for a board with this many stones, on a shelf with this many levels: want of memory only where the shelf has the
 -- board's level.
 abbrev pub IsDue : ℕ → ℕ → LineFault → Type 0
 IsDue levels stones (NotYet n) = (n ≡ levels) × (levels ≤ stones)

@@ -6,7 +6,7 @@ ghost use Rattle.awari_table.specs.Shelves.{Consistent, IsShelf};
 ghost use Rattle.awari_table.specs.declared.images.Image.{Image};
 
 /// Over a shelf there is at most one consistent image whose plans are the lowest, and at most one
-/// shelf of so many levels whose plans are. So all entries are the same, whoever builds them and in
+/// shelf with this many levels whose plans are. So all entries are the same, whoever builds them and in
 /// whatever order.
 pub fn lowest_levels_are_one()
     ensures image { (shelf : List Image) (image other : Image) → IsShelf shelf → Consistent shelf image → Consistent shelf other

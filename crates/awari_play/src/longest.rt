@@ -107,7 +107,7 @@ fn stubborn_pit(shelf: &Shelf, board: &Board, dist: u32) -> u8
     unreachable!()
 }
 
-/// Whether the pit is legal, and its move takes so many plies.
+/// Whether the pit is legal, and its move takes this many plies.
 fn takes(shelf: &Shelf, board: &Board, pit: u8, plies: u32) -> bool
     requires { sum board.now < length shelf.now }
     ensures { IsTrue result ↔ TakesPlies (table_of shelf.now) board.now pit plies }

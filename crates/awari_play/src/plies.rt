@@ -215,7 +215,7 @@ fn plies_of(
     Ok(plies)
 }
 
-/// The board that stands after so many of the plies from a board.
+/// The board that stands after this many of the plies from a board.
 fn board_after(board: &Board, plies: &[Ply], count: usize) -> Board
     requires { count ≤ length plies.now }
     ensures { slice_get (boards_in board.now plies.now) count ≡ Some result }

@@ -177,7 +177,7 @@ fn plan_mark(is_plan: bool) -> &'static [u8]
     if is_plan { b" plan" } else { b"" }
 }
 
-/// The line of a board that has no legal move, of which the mover gains so many stones.
+/// The line of a board that has no legal move, of which the mover gains this many stones.
 fn line_of_end(gain: i8) -> TextLine
     ensures { result.items ≡ end_line gain }
 {

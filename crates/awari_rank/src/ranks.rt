@@ -9,7 +9,7 @@ ghost use Rattle.awari_rank.specs.declared.counts.TheConstants.{MOST_STONES};
 use crate::counts::fewer_after;
 use awari_board::Board;
 
-/// The number of boards with so many stones, at most `MOST_STONES`. It is one look-up in a table.
+/// The number of boards with this many stones, at most `MOST_STONES`. It is one look-up in a table.
 pub fn size(stones: u8) -> u32
     requires { stones ≤ MOST_STONES }
     ensures boards { result ≡ size_of stones }
@@ -44,7 +44,7 @@ pub fn rank(board: &Board) -> u32
     boards - 1 - larger
 }
 
-/// The board of this rank among those with so many stones. Conditions: at most `MOST_STONES` stones,
+/// The board of this rank among those with this many stones. Conditions: at most `MOST_STONES` stones,
 /// and a rank below the number of such boards.
 ///
 /// It takes no memory, and no more steps than there are stones and pits.

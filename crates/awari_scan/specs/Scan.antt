@@ -78,7 +78,7 @@ pub record AreMovesBelow (p : List ℕ) (k near far : ℕ) : Type 0 where
   pub legal : (x : ℕ) → has_pit far x ≡ true → IsLegal p x
   pub all : (x : ℕ) → x < k → IsLegal p x → (has_pit near x ≡ true) ⊎ (has_pit far x ≡ true)
 
--- what is needed to scan so many boards of n stones from rank `first` on, by these values and an index of this level
+-- what is needed to scan this many boards of n stones from rank `first` on, by these values and an index of this level
 pub record CanScan (value : List ℕ → ℤ) (n index first boards : ℕ) : Type 0 where
   pub values : CanValue value n
   pub level : index ≡ n

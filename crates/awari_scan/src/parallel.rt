@@ -51,7 +51,7 @@ struct Scan<'a> {
     index: &'a Index,
 }
 
-/// Scans the boards from rank `first` on, one for each cell, in at most so many pieces, side by side.
+/// Scans the boards from rank `first` on, one for each cell, in at most this many pieces, side by side.
 #[cycle(halves)]
 fn scan_pieces<R: Threads + Sync>(
     rt: &R,

@@ -52,7 +52,7 @@ pub fn scanned_cells(
     Ok(cells)
 }
 
-/// Room for the cells of so many boards.
+/// Room for the cells of this many boards.
 pub fn unscanned_cells(alloc: Global, boards: usize) -> Result<Vec<Cell>, AllocError>
     ensures { IfOk result (λ cells. vec_len cells ≡ boards) }
 {

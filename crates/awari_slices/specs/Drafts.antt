@@ -21,7 +21,7 @@ pub record IsSlice (old new : AnalysisView) : Type 0 where
   pub opens : NoneAreFresh old.parts → 2 ≤ old.gain → new.gain + 1 ≡ old.gain
   pub spreads : NoneAreFresh old.parts ⊎ SpreadsNearest old.parts new.parts
 
--- so many slices are, one after the other
+-- this many slices are, one after the other
 abbrev pub AreSlices : ℕ → AnalysisView → AnalysisView → Type 0
 AreSlices zero old new = new ≡ old
 AreSlices (suc n) old new = (mid : AnalysisView) × AreSlices n old mid × IsSlice mid new

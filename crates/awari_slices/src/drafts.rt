@@ -68,7 +68,7 @@ impl Draft {
         self.analysis.gain() == 1 && self.analysis.due(self.analysis.wave()).is_none()
     }
 
-    /// Spreads boards of the nearest distance, until so many that are lost are spread, or so many that are
+    /// Spreads boards of the nearest distance, until this many that are lost are spread, or this many that are
     /// won, or all; or opens the next gain, if no board is fresh. A level that is settled stays as it is.
     /// It takes memory for fresh boards and for notes, and is refused only if that runs out; then the
     /// level is lost.
@@ -106,7 +106,7 @@ impl Draft {
     }
 }
 
-/// The level after so many slices, each of so many boards.
+/// The level after this many slices, each of this many boards.
 pub fn spread_slices(draft: Draft, slices: u32, boards: usize) -> Result<Draft, AllocError>
     requires { (value : List ℕ → ℤ) × AreHeard value draft.parts }
     ensures goes_on { IfOk result (GoesOn draft) }

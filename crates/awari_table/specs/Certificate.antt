@@ -30,7 +30,7 @@ NoMoveGainsMore t p = (x c : ℕ) (q : List ℕ) → IsMove p x c q → (pos c -
 abbrev pub PlanGains : Table → List ℕ → Type 0
 PlanGains t p = (x c : ℕ) (q : List ℕ) → t.plan p ≡ Some x → IsMove p x c q → (pos c -ℤ t.value q) ≡ t.value p
 
--- V6, where distances have to fall: at value 0 the distance is 0; any other board that is not ended has at least 1; the plan of
+-- V6 of older files, which a yes does not use: at value 0 the distance is 0; any other board not ended has at least 1; the plan of
 -- a positive board captures or leads to a smaller distance; and each quiet move of a negative board leads to a smaller distance.
 pub record DistancesFall (t : Table) (p : List ℕ) : Type 0 where
   pub even : t.value p ≡ pos 0 → t.dist p ≡ 0
@@ -42,22 +42,22 @@ pub record DistancesFall (t : Table) (p : List ℕ) : Type 0 where
 abbrev pub plies : ℕ → ℕ → ℕ
 plies c dist = if c == 0 then dist + 1 else 1
 
--- a move gains the value, and takes so many plies
+-- a move gains the value, and takes this many plies
 abbrev pub GainsIn : Table → List ℕ → ℕ → Type 0
 GainsIn t p k = (x c : ℕ) × (q : List ℕ) × IsMove p x c q × ((pos c -ℤ t.value q) ≡ t.value p) × (plies c (t.dist q) ≡ k)
 
--- each move that gains the value takes at least so many
+-- each move that gains the value takes at least this many
 abbrev pub GainsNoSooner : Table → List ℕ → ℕ → Type 0
 GainsNoSooner t p k = (x c : ℕ) (q : List ℕ) → IsMove p x c q → (pos c -ℤ t.value q) ≡ t.value p → k ≤ plies c (t.dist q)
 
--- a move takes so many plies, and each move takes at most so many
+-- a move takes this many plies, and each move takes at most this many
 abbrev pub MovesIn : Table → List ℕ → ℕ → Type 0
 MovesIn t p k = (x c : ℕ) × (q : List ℕ) × IsMove p x c q × (plies c (t.dist q) ≡ k)
 
 abbrev pub MovesNoLater : Table → List ℕ → ℕ → Type 0
 MovesNoLater t p k = (x c : ℕ) (q : List ℕ) → IsMove p x c q → plies c (t.dist q) ≤ k
 
--- V6, where distances have to be the least: at value 0 the distance is 0; a positive board that is not ended has the least
+-- V6, by which distances have to be the least: at value 0 the distance is 0; a positive board that is not ended has the least
 -- number of plies that a move takes which gains its value; a negative one has the greatest that a move takes; and the plan of a
 -- positive board captures or leads to a smaller distance.
 pub record DistancesAreLeast (t : Table) (p : List ℕ) : Type 0 where
@@ -80,8 +80,8 @@ pub record IsRightBy (asked : Distances) (t : Table) (p : List ℕ) : Type 0 whe
   pub plan_gains : PlanGains t p
   pub distances : DistancesAre asked t p
 
--- All boards with fewer than `levels` stones are right, and no distance among them is above the limit. That distances fall is
--- all that is asked of them.
+-- All boards with fewer than `levels` stones are right, and no distance among them is above the limit. Of distances it
+-- asks only that they fall. Proofs go by this, and a yes does not use it.
 pub record IsCertificate (t : Table) (levels limit : ℕ) : Type 0 where
   pub right : (p : List ℕ) → IsBoard p → sum p < levels → IsRightBy Falling t p
   pub limited : (p : List ℕ) → IsBoard p → sum p < levels → t.dist p ≤ limit

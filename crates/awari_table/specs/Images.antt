@@ -11,7 +11,7 @@ use Rattle.awari_table.specs.Certificate.{Table}
 abbrev pub HasOwnPlan : Entry → Type 0
 HasOwnPlan e = IfSome e.plan (λ x. x < 6)
 
--- an image of a level up to the highest, with an entry for each of its boards
+-- an image of a level up to the highest, with an entry for each of its boards; a yes does not use this
 pub record IsLevel (image : Image) : Type 0 where
   pub low : image.level ≤ HIGHEST_LEVEL
   pub sized : length image.entries ≡ size_of image.level
@@ -44,7 +44,7 @@ greatest_dist entries = fold (λ most e. max most e.dist) 0 entries
 abbrev pub greatest_limit : List Image → ℕ
 greatest_limit levels = fold (λ most image. max most image.limit) 0 levels
 
--- how many boards are won, even and lost for the mover
+-- how many boards are won, even and lost for the mover, which a yes does not use
 abbrev pub won_boards : List Entry → ℕ
 won_boards entries = count_by (λ e. int_lt (pos 0) e.value) entries
 

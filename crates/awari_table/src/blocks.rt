@@ -24,7 +24,7 @@ fn fault_at(line: u64, text: &[u8]) -> TableFault
     }
 }
 
-/// So many entries, and what follows them.
+/// This many entries, and what follows them.
 fn entries(
     alloc: Global,
     count: u32,

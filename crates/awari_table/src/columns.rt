@@ -95,7 +95,7 @@ impl Columns {
         }
     }
 
-    /// The columns with no entry, and with room for so many.
+    /// The columns with no entry, and with room for this many.
     pub fn with_capacity(alloc: Global, count: usize) -> Result<Self, AllocError>
         ensures { IfOk result (λ c. c ≡ []) }
     {
@@ -183,7 +183,7 @@ impl Columns {
         Ok(entries)
     }
 
-    /// Copies the entries from this rank on into `run`, as many as it holds. Condition: so many are
+    /// Copies the entries from this rank on into `run`, as many as it holds. Condition: that many are
     /// there.
     pub fn copy_run(&self, from: usize, run: &mut [Entry])
         requires { from + length run.old ≤ length self.now }

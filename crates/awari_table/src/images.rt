@@ -111,7 +111,7 @@ impl Entries {
         }
     }
 
-    /// No entries, with room for so many. It takes memory for three bytes an entry.
+    /// No entries, with room for this many. It takes memory for three bytes an entry.
     pub fn with_capacity(alloc: Global, count: usize) -> Result<Self, AllocError>
         ensures { IfOk result (λ e. e ≡ []) }
     {
@@ -211,7 +211,7 @@ impl Entries {
         }
     }
 
-    /// Copies the entries from this rank on into `run`, as many as it holds. Condition: so many are
+    /// Copies the entries from this rank on into `run`, as many as it holds. Condition: that many are
     /// there. It takes no memory.
     pub fn copy_run(&self, from: usize, run: &mut [Entry])
         requires { from + length run.old ≤ length self.now }

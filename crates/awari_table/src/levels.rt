@@ -62,7 +62,7 @@ impl Level {
     }
 
     /// Copies the entries from this rank on into `run`, as many as it holds. Condition: the level has
-    /// so many from there on. It takes no memory.
+    /// this many from there on. It takes no memory.
     pub fn copy_run(&self, from: u32, run: &mut [Entry])
         requires { from + length run.old ≤ size_of self.now.level }
         ensures { run.new ≡ take (length run.old) (drop from self.now.entries) }

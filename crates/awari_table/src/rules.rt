@@ -17,7 +17,7 @@ pub enum Distances {
 }
 
 /// A legal move: the stones that it captures, the value of the board that it leaves, and how many
-/// plies it takes. That is one if it captures, else one more than the distance of the board that it
+/// plies it takes. It takes one if it captures, else one more than the distance of the board that it
 /// leaves, which may be the greatest u32.
 #[derive(Clone, Copy)]
 pub struct Reached {
@@ -27,7 +27,7 @@ pub struct Reached {
 }
 
 impl Reached {
-    /// The move that captures so many stones, and leaves a board of this entry.
+    /// The move that captures this many stones, and leaves a board of this entry.
     #[inline(always)]
     pub fn of(captured: u8, entry: Entry) -> Reached
         ensures captured { result.captured ≡ captured }
@@ -45,7 +45,7 @@ impl Reached {
         }
     }
 
-    /// The move that captures so many stones, at least one, and leaves a board of this value. The
+    /// The move that captures this many stones, at least one, and leaves a board of this value. The
     /// distance of that board is of no matter.
     #[inline(always)]
     pub fn by_capture(captured: u8, value: i8) -> Reached

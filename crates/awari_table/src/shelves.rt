@@ -162,7 +162,7 @@ impl Shelf {
         self.level(stones).entry_at(board.rank())
     }
 
-    /// The value of a packed board. Condition: it has so many stones, fewer than there are levels. It
+    /// The value of a packed board. Condition: it has this many stones, fewer than there are levels. It
     /// takes no memory. Neither plan nor distance is read.
     #[inline(always)]
     pub fn value_below(&self, board: &PackedBoard, stones: u8) -> i8

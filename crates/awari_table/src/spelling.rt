@@ -141,7 +141,7 @@ fn write_batch<W: Write>(entries: &[Entry], writer: &mut Counted<W>) -> io::Resu
     writer.write_all(lines.as_slice())
 }
 
-/// Writes the lines of so many entries of a level, from this rank on.
+/// Writes the lines of this many entries of a level, from this rank on.
 fn write_run<W: Write>(
     level: &Level,
     from: u32,

@@ -169,7 +169,7 @@ fn expect_third(rt: &impl Abort, level: &Level) {
     expect_equal(rt, "counts", level.counts(), counts);
 }
 
-/// The shelf has so many levels and this limit, and its level 1 the limit 1.
+/// The shelf has this many levels and this limit, and its level 1 the limit 1.
 fn expect_shelf(rt: &impl Abort, shelf: &Shelf, levels: u8, limit: u32) {
     let found = (shelf.levels(), shelf.limit());
     expect_equal(rt, "levels and limit", found, (levels, limit));

@@ -9,7 +9,7 @@ use std::test::Fail;
 const LEVELS_0_TO_1: &[u8] =
     b"level 0 limit 0\n0 - 0\nlevel 1 limit 1\n-1 - 0\n-1 - 0\n-1 - 0\n-1 - 0\n-1 - 0\n-1 - 0\n-1 5 1\n1 - 0\n1 - 0\n1 - 0\n1 - 0\n1 - 0\n";
 
-/// Reads a level of so many entries.
+/// Reads a level of this many entries.
 fn expect_level(
     rt: &impl Abort,
     text: &mut TableText<'_>,

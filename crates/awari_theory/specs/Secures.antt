@@ -10,7 +10,7 @@ Secures t limit p =
     (most : ℕ) (xs : List ℕ) (s : Standing) (o : ℤ) → limit ≤ most → IsPlay (start p) xs s → IsOutcome most s o
     → (Follows t.plan true (start p) xs → t.value p ≤ℤ o) × (Follows t.plan false (start p) xs → o ≤ℤ t.value p)
 
--- While the side with the positive value follows, a play with no capture has at most as many plies as the distance, and one of just so many ends.
+-- While the side with the positive value follows, a play with no capture has at most as many plies as the distance, and a play of exactly that many ends.
 abbrev pub Soon : Table → List ℕ → Type 0
 Soon t p =
     (first : Bool) (xs : List ℕ) (s : Standing)
@@ -18,7 +18,7 @@ Soon t p =
     → IsPlay (start p) xs s → s.quiet ≡ length xs → Follows t.plan first (start p) xs
     → (length xs ≤ t.dist p) × (length xs ≡ t.dist p → IsEnded s.board)
 
--- Where both follow the plans, the play comes to an outcome, and it is the value.
+-- If both follow the plans, the play comes to an outcome, and it is the value. A yes does not use this.
 abbrev pub Comes : Table → ℕ → List ℕ → Type 0
 Comes t limit p =
     (most : ℕ)

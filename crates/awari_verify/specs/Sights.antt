@@ -65,7 +65,7 @@ KeepsLosing s = s.entry.value <ℤ pos 0 → All (λ o. IfSome o (λ m. IsNearer
 abbrev pub KeepsFalling : Seen → Type 0
 KeepsFalling s = KeepsEven s × KeepsUneven s × KeepsWinning s × KeepsLosing s
 
--- a move that gains the value in so many plies
+-- a move that gains the value in this many plies
 abbrev pub GainsJustIn : ℤ → ℕ → Reached → Type 0
 GainsJustIn value dist m = (gain_of m ≡ value) × (m.plies ≡ dist)
 

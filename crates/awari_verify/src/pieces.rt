@@ -23,7 +23,7 @@ use awari_table::{Distances, Image, Shelf};
 /// How many fillings of pits 6 to 11 a tile has.
 const TILE: u32 = 64;
 
-/// The tiles are shared among so many parts.
+/// The tiles are shared among this many parts.
 const PARTS: u32 = 64;
 
 /// Pits 0 to 5 have 0 to 24 stones. By how many they are, each part is cut into pieces.
@@ -41,7 +41,7 @@ pub struct Nearest {
 }
 
 impl Nearest {
-    /// No breach is known among so many boards.
+    /// No breach is known among this many boards.
     pub fn none(boards: u32) -> Nearest
         ensures { result ≡ record { rank = boards; rule = None } }
     {
@@ -211,7 +211,7 @@ fn following(board: &PackedBoard) -> PackedBoard
     }
 }
 
-/// In how many ways so many stones fill pits 6 to 11. The boards with no stone in pits 0 to 5 are the
+/// In how many ways this many stones fill pits 6 to 11. The boards with no stone in pits 0 to 5 are the
 /// first of their level.
 fn fillings(stones: u8) -> u32
     requires { stones ≤ 24 }

@@ -14,7 +14,7 @@ use Rattle.awari_waves.proofs.Spans.{grid_of}
 use Rattle.awari_scan.specs.Scan.{IsScannedPart}
 use Rattle.awari_scan.proofs.Finding.{level_few}
 
--- the first blocks of a level, so many
+-- the first blocks of a level, this many
 pub record AreScanned (value : List ℕ → ℤ) (n span count : ℕ) (parts : List Part) : Type 0 where
   pub many : length parts ≡ count
   pub each : (i : ℕ) → i < length parts → IsScannedPart value n (i * span) (min ((i + 1) * span) (size_of n)) (part_at parts i)

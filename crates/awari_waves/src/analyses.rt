@@ -23,7 +23,7 @@ use awari_table::Shelf;
 use std::alloc::{AllocError, Global};
 use std::marker::Model;
 
-/// A level of so many boards is cut into a few large segments: enough for four threads.
+/// A level with this many boards is cut into a few large segments: enough for four threads.
 const LARGE: u32 = 12 << 22;
 
 /// A level that is being built: all its boards in segments of one length, the last one shorter, and
@@ -167,7 +167,7 @@ impl Analysis {
     }
 
     /// Spreads fresh boards of this distance, which is opened first if a smaller one is open. It spreads
-    /// on until so many that are lost are spread, or so many that are won, or all. Those of a segment are
+    /// on until this many that are lost are spread, or this many that are won, or all. Those of a segment are
     /// spread together. Settled boards keep value and distance. Conditions: as for `spread`. Refused if
     /// memory runs out; then the level is lost.
     pub fn spread_some(self, dist: u32, boards: usize) -> Result<Analysis, AllocError>
@@ -184,7 +184,7 @@ impl Analysis {
         Ok(after)
     }
 
-    /// Spreads so many fresh boards of the open wave.
+    /// Spreads this many fresh boards of the open wave.
     fn spread_some_open(self, boards: usize) -> Result<Analysis, AllocError>
         requires opened { self.gain ≤ self.level }
         requires near { self.wave < 2 ^ 32 - 1 }

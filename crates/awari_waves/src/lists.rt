@@ -66,7 +66,7 @@ impl Lists {
         None
     }
 
-    /// Puts one behind the list at this number. Where it is refused the lists hold what they held.
+    /// Puts one behind the list at this number. If it is refused the lists hold what they held.
     #[inline(always)]
     pub fn put(&mut self, at: u32, value: u32) -> Result<(), AllocError>
         ensures put { OnOk result (self.new ≡ with_put self.old at value) }

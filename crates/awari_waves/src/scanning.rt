@@ -37,7 +37,7 @@ pub fn scanned_segments(
     Ok(segments)
 }
 
-/// How many segments of so many boards have all these boards.
+/// How many segments of this many boards have all these boards.
 pub fn segments_in(boards: u32, span: u32) -> u32
     requires { 0 < span }
     ensures begun { (k : ℕ) → k < result → k * span < boards }

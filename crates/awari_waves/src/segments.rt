@@ -39,7 +39,7 @@ pub fn hear_row(segment: &mut Segment, number: usize, row: &Row) -> Result<(), A
 }
 
 /// It hears the notes of these codes, all of boards of the segment, of one kind, and of the open gain and
-/// distance. Boards that they settle join the fresh ones. Refused where there was no room for those; then
+/// distance. Boards that they settle join the fresh ones. Refused if there was no room for those; then
 /// the level is lost.
 fn hear(segment: &mut Segment, kind: Kind, codes: &[u32]) -> Result<(), AllocError>
     requires codes { All (IsCodeFor segment.old) codes.now }

@@ -38,7 +38,7 @@ pub fn spread_wave(
     Ok(())
 }
 
-/// Spreads fresh boards of the open wave, until so many of a kind are, or all. Those of a segment that
+/// Spreads fresh boards of the open wave, until this many of a kind are, or all. Those of a segment that
 /// are of a kind are spread together. Refused if memory runs out; then the level is lost.
 pub fn spread_some(
     front: Front,
@@ -58,7 +58,7 @@ pub fn spread_some(
     Ok(())
 }
 
-/// Moves those of the segments from this number on into the chunk, until it has so many of a kind. The
+/// Moves those of the segments from this number on into the chunk, until it has this many of a kind. The
 /// result is the number of the next segment.
 fn gather(
     from: usize,
@@ -83,7 +83,7 @@ fn gather(
     Ok(segments.len())
 }
 
-/// Whether the chunk has so many of a kind.
+/// Whether the chunk has this many of a kind.
 fn is_full(chunk: &Chunk, most: usize) -> bool
     ensures { IsTrue result → most ≤ length chunk.now.lost.items + length chunk.now.won.items }
 {
