@@ -1,14 +1,4 @@
 pub mod Asked
-pub mod Refusals
-pub mod Playing
-pub mod Judgement
-pub mod Folders
-pub mod Wishes
-pub mod Lines
-pub mod Worths
-pub mod Texts
-pub mod LevelLines
-pub mod Plies
-pub mod Unverified
-pub mod UnverifiedLines
 pub mod Broken
+pub mod LevelLines
+pub mod Refusals

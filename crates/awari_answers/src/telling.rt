@@ -1,8 +1,11 @@
-//! A level in one line.
+//! A level in one line, and a folder in one.
 
-ghost use Rattle.awari_answers.specs.LevelLines.{IsToldOf};
+ghost use Rattle.std.specs.Prelude.{◌≡◌};
+ghost use Rattle.awari_answers.specs.LevelLines.{IsToldOf, digest_text};
 
+use arrayvec::ArrayString;
 use awari_members::{Line, Member};
+use awari_play::hex_digit;
 use awari_queries::Form;
 use awari_rank::size;
 use awari_table::{Counts, Level};
@@ -67,4 +70,37 @@ pub fn line_of_level(level: &Level) -> LevelLine
         counts: level.counts(),
         limit: level.limit(),
     }
+}
+
+/// The last line of a folder: how many levels it has, and the digest of the last one's file.
+#[derive(Clone, Copy)]
+pub struct Summary {
+    /// How many levels the folder has.
+    pub levels: usize,
+    /// The digest of the last level's file, 32 zeros if the folder has no level.
+    pub digest: [u8; 32],
+}
+
+impl fmt::Display for Summary {
+    ghost use Rattle.std.specs.Prelude.{Some};
+    ghost use Rattle.awari_answers.specs.LevelLines.{summary_text};
+
+    ghost output = { λ summary. Some (summary_text summary) };
+
+    fn fmt<W: fmt::Write>(&self, f: &mut fmt::Formatter<W>) -> fmt::Result {
+        let digits = hex_of(&self.digest);
+        write!(f, "levels {} digest {digits}", self.levels)
+    }
+}
+
+/// The digest in hexadecimal. It takes no memory.
+pub fn hex_of(digest: &[u8; 32]) -> ArrayString<64>
+    ensures { result.bytes ≡ digest_text digest.now }
+{
+    let mut text = ArrayString::new();
+    for byte in digest {
+        text.push(char::from(hex_digit(*byte / 16)));
+        text.push(char::from(hex_digit(*byte % 16)));
+    }
+    text
 }

@@ -9,22 +9,22 @@ use Rattle.awari_cli.specs.Building.{PrintsAllLevels, PrintsLevels}
 use Rattle.awari_cli.specs.Hosts.{Stands}
 use Rattle.awari_cli.specs.Migrating.{PrintsMigrated}
 use Rattle.awari_cli.specs.Serving.{PrintsService}
-use Rattle.awari_answers.specs.Folders.{PrintsEntry, PrintsEntryJson}
-use Rattle.awari_answers.specs.Wishes.{PrintsFolder}
-use Rattle.awari_answers.specs.Judgement.{PrintsJudgement, bytes_of}
-use Rattle.awari_answers.specs.Lines.{PrintsLineBy}
-use Rattle.awari_answers.specs.Playing.{PrintsMove}
-use Rattle.awari_answers.specs.Plies.{PrintsPlies}
-use Rattle.awari_answers.specs.Texts.{PrintsText}
-use Rattle.awari_answers.specs.Unverified.{PrintsEntrySaidBy, PrintsWorthsSaidBy}
-use Rattle.awari_answers.specs.UnverifiedLines.{PrintsLineSaid, PrintsPliesSaid}
-use Rattle.awari_answers.specs.Worths.{PrintsWorths, PrintsWorthsJson}
-use Rattle.awari_questions.specs.Boards.{PrintsAllBoards, PrintsBoardsBy}
+use Rattle.awari_boards.specs.Asks.{PrintsEntry, PrintsEntryJson}
+use Rattle.awari_levels.specs.Wishes.{PrintsFolder}
+use Rattle.awari_boards.specs.Judgement.{PrintsJudgement, bytes_of}
+use Rattle.awari_boards.specs.Lines.{PrintsLineBy}
+use Rattle.awari_boards.specs.Playing.{PrintsMove}
+use Rattle.awari_boards.specs.Plies.{PrintsPlies}
+use Rattle.awari_levels.specs.Texts.{PrintsText}
+use Rattle.awari_boards.specs.Unverified.{PrintsEntrySaidBy, PrintsWorthsSaidBy}
+use Rattle.awari_boards.specs.UnverifiedLines.{PrintsLineSaid, PrintsPliesSaid}
+use Rattle.awari_boards.specs.Worths.{PrintsWorths, PrintsWorthsJson}
+use Rattle.awari_levels.specs.Boards.{PrintsAllBoards, PrintsBoardsBy}
 use Rattle.awari_pairs.specs.Pairs.{PrintsPairsBy}
 use Rattle.awari_queries.specs.declared.questions.CountsQuery.{CountsQuery}
-use Rattle.awari_questions.specs.Counts.{PrintsCountsBy}
-use Rattle.awari_questions.specs.Places.{PrintsBoard, PrintsPlace}
-use Rattle.awari_questions.specs.Plays.{PrintsPlays}
+use Rattle.awari_levels.specs.Counts.{PrintsCountsBy}
+use Rattle.awari_boards.specs.Places.{PrintsBoard, PrintsPlace}
+use Rattle.awari_boards.specs.Plays.{PrintsPlays}
 use Rattle.awari_unverified.specs.Said.{PrintsServiceSaid}
 use Rattle.awari_words.specs.declared.requests.Question.{Question}
 use Rattle.awari_words.specs.declared.requests.Question.TheVariants.{Verify, Text, Ask, Moves, Line, Serve, Counts, Boards}

@@ -6,8 +6,8 @@ use Rattle.awari_folder.specs.Contents.{AreNames}
 use Rattle.awari_folder.specs.Migration.{IsFirstMigrationFault, IsMigrated}
 use Rattle.awari_folder.specs.declared.faults.FolderFault.{FolderFault}
 use Rattle.awari_folder.specs.declared.migrating.Limits.{Limits}
-use Rattle.awari_answers.specs.Folders.{summary_text}
-use Rattle.awari_answers.specs.declared.folders.Summary.{Summary}
+use Rattle.awari_answers.specs.LevelLines.{summary_text}
+use Rattle.awari_answers.specs.declared.telling.Summary.{Summary}
 use Rattle.awari_cli.specs.declared.migrating.MigratedLevel.{MigratedLevel}
 
 abbrev pub migrated_text : MigratedLevel → List ℕ

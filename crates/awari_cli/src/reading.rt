@@ -1,23 +1,23 @@
 //! Questions about the levels in a folder of the host.
 
 ghost use Rattle.std.specs.Prelude.{◌≡◌, ◌≤◌};
-ghost use Rattle.awari_answers.specs.Lines.{PrintsLineBy};
+ghost use Rattle.awari_boards.specs.Lines.{PrintsLineBy};
 ghost use Rattle.awari_cli.specs.Done.{PrintsAnswer, PrintsEntryBy, PrintsLineAsked, PrintsNumbers, PrintsWorthsBy};
 ghost use Rattle.awari_cli.specs.Hosts.{AllStay};
 ghost use Rattle.awari_folder.specs.Contents.{Same};
 
 use crate::hosts::{Host, Purpose};
 use crate::serving::run_serve;
-use awari_answers::{
-    NoAnswer, Replies, Streams, print, refuse, run_ask, run_ask_json, run_ask_json_unverified,
-    run_ask_unverified, run_line, run_line_json, run_line_unverified, run_longest_json,
-    run_longest_line, run_moves, run_moves_json, run_moves_json_unverified, run_moves_unverified,
-    run_plies, run_plies_unverified, run_text, run_verify,
+use awari_answers::{NoAnswer, Replies, Streams, print, refuse};
+use awari_boards::{
+    run_ask, run_ask_json, run_ask_json_unverified, run_ask_unverified, run_line, run_line_json,
+    run_line_unverified, run_longest_json, run_longest_line, run_moves, run_moves_json,
+    run_moves_json_unverified, run_moves_unverified, run_plies, run_plies_unverified,
 };
 use awari_folder::Folder;
+use awari_levels::{run_all_boards, run_boards, run_counts, run_text, run_verify};
 use awari_pairs::run_pairs;
 use awari_queries::{AskQuery, CountsQuery, LineQuery, MovesQuery};
-use awari_questions::{run_all_boards, run_boards, run_counts};
 use awari_unverified::run_serve_unverified;
 use awari_words::Question;
 use std::alloc::Global;

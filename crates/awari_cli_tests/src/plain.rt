@@ -11,7 +11,7 @@ use awari_file_tests::MemoryFolder;
 use awari_folder::Folder;
 use awari_heard::Silent;
 use awari_queries::{BoardSpans, BoardsQuery};
-use awari_questions::{run_all_boards, run_boards};
+use awari_levels::{run_all_boards, run_boards};
 use awari_unverified::run_serve_unverified;
 use std::alloc::Global;
 use std::fs::File;

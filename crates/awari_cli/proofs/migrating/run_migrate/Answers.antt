@@ -1,7 +1,7 @@
 use Rattle.std.proofs.Common.{◌≡◌, ap, arith, inl, length, subst}
 use Rattle.std.proofs.KnownBytes.{Appends-trans}
 use Rattle.std.specs.Io.KnownBytes.{Appends}
-use Rattle.awari_answers.specs.declared.folders.Summary.{Summary}
+use Rattle.awari_answers.specs.declared.telling.Summary.{Summary}
 use Rattle.awari_cli.specs.Migrating.{migrated_lines}
 use Rattle.awari_cli.proofs.migrating.run_migrate.Goals as goal
 

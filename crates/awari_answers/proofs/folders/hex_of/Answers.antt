@@ -1,9 +1,0 @@
-use Rattle.std.proofs.Common.{ap, ◌∙◌, arith}
-use Rattle.std.proofs.lemmas.List.{take_all}
-use Rattle.std.specs.List.{flat_map}
-use Rattle.awari_answers.specs.Folders.{byte_text, digest_text}
-use Rattle.awari_answers.proofs.folders.hex_of.Goals as goal
-
-pub returns : goal.returns
-unfolding digest_text
-returns c = c.loop-byte.invariant.digits ∙ ap (flat_map byte_text) (take_all c.loop-byte.byte-index c.args.digest.now (omega arith))

@@ -1,0 +1,4 @@
+pub mod JudgeLaws
+pub mod MemoLaws
+pub mod PlayLaws
+pub mod PlyLines

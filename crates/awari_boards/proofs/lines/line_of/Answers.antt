@@ -1,0 +1,14 @@
+use Rattle.std.proofs.Common.{◌∙◌, ap, sym, refl, arith, ◌+◌, sum}
+use Rattle.awari_table.proofs.CertificateLemmas.{greatest_limit-take}
+use Rattle.awari_boards.proofs.lines.line_of.Goals as goal
+
+pub returns-clause-line : goal.returns-clause-line
+returns-clause-line g c = record {
+  images = c.in_ok-board.field-0.shelf;
+  board = c.in_ok-board.field-0.board;
+  asked = c.in_ok-board.ensures.asked;
+  known = c.in-Ok.ensures.known.0 refl;
+  valued = ap (λ e. e.value) c.in-Ok.ensures.entry;
+  line = rw (sym c.limit.ensures) c.in_ok-line.ensures.line;
+  comes = c.in_ok-line.ensures.value (omega (arith, c.limit.ensures, greatest_limit-take c.in_ok-board.field-0.shelf (sum c.in_ok-board.field-0.board + 1))) ∙ sym (ap (λ e. e.value) c.in-Ok.ensures.entry);
+}

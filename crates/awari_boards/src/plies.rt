@@ -1,0 +1,113 @@
+//! The command `line` with `--plies`: a line of play ply by ply, by the levels in a folder.
+
+ghost use Rattle.std.specs.Prelude.{◌≡◌, ◌≤◌, ◌↔◌, ◌++◌, ◌∷◌, [], true, Err, IfOk, IfSome, length};
+ghost use Rattle.std.specs.Io.KnownBytes.{Appends};
+ghost use Rattle.awari_board.specs.BoardFault.{IsFaulty};
+ghost use Rattle.awari_board.specs.declared.text.BoardFault.{BoardFault};
+ghost use Rattle.awari_folder.specs.Contents.{Same};
+ghost use Rattle.awari_boards.specs.Plies.{ArePliesOf, PrintsPlies, shown_line, shown_plies, shown_ply, shown_repeat};
+ghost use Rattle.awari_answers.specs.declared.asked.NoAnswer.TheVariants as no_answer;
+
+use awari_answers::{Asked, NoAnswer, Replies, ask_folder, print_members, refuse, refuse_json, status_of};
+use awari_folder::Folder;
+use awari_members::Member;
+use awari_play::{LinePlies, Ply, Repeat, line_plies};
+use awari_queries::LineQuery;
+use std::alloc::Global;
+use std::io::Write;
+use std::thread::Threads;
+
+/// The plies of the line of play from the board that `text` spells, by the levels in the folder.
+fn plies_in<T: Threads + Sync, F: Folder>(
+    rt: &T,
+    alloc: Global,
+    folder: &mut F,
+    text: &[u8],
+    longest: bool,
+) -> Result<LinePlies, NoAnswer>
+    ensures same { Same (F.state folder.old).stands (F.state folder.new).stands }
+    ensures plies { IfOk result (λ found. ArePliesOf longest (F.state folder.old).stands text.now found.plies.items found.repeat) }
+    ensures within { IfOk result (λ found. IfSome found.repeat (λ r. r.again ≤ length found.plies.items)) }
+    ensures board { (fault : BoardFault) → (result ≡ Err (no_answer.Board fault)) ↔ IsFaulty text.now fault }
+{
+    let Asked { board, shelf } = ask_folder(rt, alloc, folder, text)?;
+    let plies = line_plies(alloc, &shelf, board, longest)?;
+    Ok(plies)
+}
+
+/// Prints a ply, and says whether the writer took it.
+fn print_ply<W: Write>(ply: &Ply, json: bool, writer: &mut W) -> bool
+    ensures { result ≡ true → Appends (W.contents writer.old) (W.contents writer.new) (shown_ply json ply.now ++ 10 ∷ []) }
+{
+    let members = [
+        Member::number("ply", ply.number as u64),
+        Member::number("pit", u64::from(ply.pit)),
+        Member::number("captures", u64::from(ply.captured)),
+        Member::signed("running", i64::from(ply.running)),
+        Member::board("board", ply.board),
+        Member::signed("value", i64::from(ply.entry.value)),
+        Member::number("distance", u64::from(ply.entry.dist)),
+    ];
+    print_members(&members, json, writer)
+}
+
+/// Prints where a line comes back to a board, and says whether the writer took that.
+fn print_repeat<W: Write>(repeat: Repeat, json: bool, writer: &mut W) -> bool
+    ensures { result ≡ true → Appends (W.contents writer.old) (W.contents writer.new) (shown_repeat json repeat ++ 10 ∷ []) }
+{
+    let members = [Member::number("repeats", repeat.first as u64)];
+    print_members(&members, json, writer)
+}
+
+/// Prints each ply, and says whether the writer took them.
+fn print_plies<W: Write>(plies: &[Ply], json: bool, writer: &mut W) -> bool
+    ensures { result ≡ true → Appends (W.contents writer.old) (W.contents writer.new) (shown_plies json plies.now) }
+{
+    for ply in plies {
+        if !print_ply(ply, json, writer) {
+            return false;
+        }
+    }
+    true
+}
+
+/// Prints the plies up to the repeat, or all of them, and says whether the writer took that.
+pub(crate) fn print_line<W: Write>(found: &LinePlies, json: bool, writer: &mut W) -> bool
+    requires { IfSome found.now.repeat (λ r. r.again ≤ length found.now.plies.items) }
+    ensures { result ≡ true → Appends (W.contents writer.old) (W.contents writer.new) (shown_line json found.now.plies.items found.now.repeat) }
+{
+    let plies = found.plies.as_slice();
+    match found.repeat {
+        None => print_plies(plies, json, writer),
+        Some(repeat) => {
+            print_plies(&plies[..repeat.again], json, writer) && print_repeat(repeat, json, writer)
+        }
+    }
+}
+
+/// Prints a line or a JSON object for each ply of the line of play from a board: by the plans of both
+/// sides, or with one that holds out. If the board's value is 0, it ends where a board comes again, and
+/// says so. Or it prints the refusal.
+pub fn run_plies<T: Threads + Sync, F: Folder, W: Replies>(
+    rt: &T,
+    alloc: Global,
+    folder: &mut F,
+    query: LineQuery<'_>,
+    writer: &mut W,
+) -> u8
+    ensures status { result ≤ 1 }
+    ensures same { Same (F.state folder.old).stands (F.state folder.new).stands }
+    ensures found { result ≡ 0 → PrintsPlies (F.state folder.old).stands query.entry.longest query.entry.json query.entry.board.now (W.contents writer.old) (W.contents writer.new) }
+{
+    let LineQuery {
+        board,
+        longest,
+        json,
+        ..
+    } = query;
+    match plies_in(rt, alloc, folder, board.as_bytes(), longest) {
+        Ok(found) => status_of(print_line(&found, json, writer)),
+        Err(fault) if json => refuse_json(writer, "line", board, fault),
+        Err(fault) => refuse(writer, fault),
+    }
+}

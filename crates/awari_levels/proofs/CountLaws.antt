@@ -1,0 +1,92 @@
+-- Lines of numbers of boards, one after the other.
+use Rattle.std.proofs.Common.{◌≡◌, ℕ, ◌+◌, ◌==◌, ◌<◌, Bool, true, false, cond, List, [], ◌∷◌, ◌++◌, slice_get, take, Option, refl, sym, ◌∙◌, ap, subst, arith}
+use Rattle.std.proofs.KnownBytes.{Appends-trans}
+use Rattle.std.proofs.lemmas.Bool.Decides.{nat_tests}
+use Rattle.std.proofs.lemmas.Grind.{flat_map-append}
+use Rattle.std.proofs.lemmas.List.{append-nil, map-id}
+use Rattle.std.proofs.lemmas.List.FromFn.{map-range_with_len_more}
+use Rattle.std.specs.Io.KnownBytes.{Appends}
+use Rattle.std.specs.List.{flat_map, range_with_len}
+use Rattle.awari_table.specs.declared.images.Entry.{Entry}
+use Rattle.awari_table.specs.declared.images.Image.{Image}
+use Rattle.awari_answers.specs.LevelLines.{IsToldOf}
+use Rattle.awari_answers.specs.declared.telling.LevelLine.{LevelLine}
+use Rattle.std.specs.Prelude.{IsSomeAnd}
+use Rattle.awari_table.proofs.ShelfLemmas.{take-read}
+use Rattle.awari_facts.proofs.SourceLaws.{image_of}
+use Rattle.awari_levels.specs.Numbers.{AreNumbersOf}
+use Rattle.awari_levels.specs.declared.counts.Numbers.{Numbers}
+use Rattle.awari_members.specs.Members.{share_line}
+use Rattle.awari_levels.specs.Counts.{boards_of_distance, boards_of_value, count_lines, distance_lines, shown_distance, shown_level, shown_levels, shown_told, shown_value, value_at, value_lines}
+
+range-more : (n : ℕ) → range_with_len 0 (n + 1) ≡ range_with_len 0 n ++ n ∷ []
+range-more n = sym (map-id (range_with_len 0 (n + 1))) ∙ map-range_with_len_more (λ k. k) 0 n n (omega arith) ∙ ap (λ xs. xs ++ n ∷ []) (map-id (range_with_len 0 n))
+
+-- the lines of the keys up to one
+lines-more : (f : ℕ → List ℕ) (n : ℕ) → flat_map f (range_with_len 0 (n + 1)) ≡ flat_map f (range_with_len 0 n) ++ f n
+lines-more f n = ap (flat_map f) (range-more n) ∙ flat_map-append f (range_with_len 0 n) (n ∷ []) ∙ ap (λ t. flat_map f (range_with_len 0 n) ++ t) (append-nil (f n))
+
+-- a key that no board has
+pub shared-skip : (shown : ℕ → ℕ → List ℕ) (count : ℕ → ℕ) (n boards : ℕ) (before now : Option (List ℕ)) → Appends before now (flat_map (λ k. share_line (shown k) (count k)) (range_with_len 0 n))
+    → boards ≡ count n → boards ≡ 0 → Appends before now (flat_map (λ k. share_line (shown k) (count k)) (range_with_len 0 (n + 1)))
+shared-skip shown count n boards before now so_far is none =
+    let empty : share_line (shown n) (count n) ≡ [] = ap (share_line (shown n)) (sym is ∙ none) in
+    subst (Appends before now) (sym (lines-more (λ k. share_line (shown k) (count k)) n ∙ ap (λ t. flat_map (λ k. share_line (shown k) (count k)) (range_with_len 0 n) ++ t) empty ∙ append-nil _)) so_far
+
+-- a key that some have
+pub shared-line : (shown : ℕ → ℕ → List ℕ) (count : ℕ → ℕ) (n boards : ℕ) (before now after : Option (List ℕ)) → Appends before now (flat_map (λ k. share_line (shown k) (count k)) (range_with_len 0 n))
+    → boards ≡ count n → 0 < boards → Appends now after (shown n boards ++ 10 ∷ [])
+    → Appends before after (flat_map (λ k. share_line (shown k) (count k)) (range_with_len 0 (n + 1)))
+shared-line shown count n boards before now after so_far is some line =
+    let here : share_line (shown n) (count n) ≡ shown n boards ++ 10 ∷ [] = ap (share_line (shown n)) (sym is) ∙ go (boards == 0) (grind (arith, nat_tests)) in
+    subst (Appends before after) (sym (lines-more (λ k. share_line (shown k) (count k)) n ∙ ap (λ t. flat_map (λ k. share_line (shown k) (count k)) (range_with_len 0 n) ++ t) here))
+    (Appends-trans before now after _ _ so_far line)
+  where
+    go : (b : Bool) → b ≡ false → cond b [] (shown n boards ++ 10 ∷ []) ≡ shown n boards ++ 10 ∷ []
+    go true e = cc
+    go false e = refl
+
+-- all keys
+pub valued-all : (json : Bool) (entries : List Entry) (n : ℕ) (before after : Option (List ℕ)) → n ≡ 256
+    → Appends before after (flat_map (λ k. share_line (shown_value json (value_at k)) (boards_of_value entries (value_at k))) (range_with_len 0 n)) → Appends before after (value_lines json entries)
+unfolding value_lines
+valued-all json entries n before after is all =
+    subst (λ m. Appends before after (flat_map (λ k. share_line (shown_value json (value_at k)) (boards_of_value entries (value_at k))) (range_with_len 0 m))) is all
+
+pub distant-all : (json : Bool) (entries : List Entry) (limit n : ℕ) (before after : Option (List ℕ)) → n ≡ limit + 1
+    → Appends before after (flat_map (λ k. share_line (shown_distance json k) (boards_of_distance entries k)) (range_with_len 0 n)) → Appends before after (distance_lines json limit entries)
+unfolding distance_lines
+distant-all json entries limit n before after is all =
+    subst (λ m. Appends before after (flat_map (λ k. share_line (shown_distance json k) (boards_of_distance entries k)) (range_with_len 0 m))) is all
+
+-- the level's line, and those of its values and distances
+pub counted-all : (json : Bool) (image : Image) (line : List ℕ) (before first second after : Option (List ℕ)) → line ≡ shown_level json image → Appends before first (line ++ 10 ∷ [])
+    → Appends first second (value_lines json image.entries) → Appends second after (distance_lines json image.limit image.entries) → Appends before after (count_lines json image)
+unfolding count_lines
+counted-all json image line before first second after is told values distances =
+    Appends-trans before second after _ _ (Appends-trans before first second _ _ (subst (λ l. Appends before first (l ++ 10 ∷ [])) is told) values) distances
+
+-- one part more
+pub lines-next : (f : ℕ → List ℕ) (n : ℕ) (before now after : Option (List ℕ)) → Appends before now (flat_map f (range_with_len 0 n)) → Appends now after (f n)
+    → Appends before after (flat_map f (range_with_len 0 (n + 1)))
+lines-next f n before now after so_far next = subst (Appends before after) (sym (lines-more f n)) (Appends-trans before now after _ _ so_far next)
+
+-- what is told of a level
+pub shown_is : (json : Bool) (image : Image) (told : LevelLine) → IsToldOf image told → shown_told json told ≡ shown_level json image
+unfolding shown_level
+shown_is json image told is = rw (is.level, is.boards, is.won, is.even, is.lost, is.limit) refl
+
+-- one level more
+pub shown_levels-push : (json : Bool) (images : List Image) (image : Image) (told : LevelLine) → IsToldOf image told
+    → shown_levels json (images ++ image ∷ []) ≡ shown_levels json images ++ (shown_told json told ++ 10 ∷ [])
+shown_levels-push json images image told tells =
+    flat_map-append (λ image. shown_level json image ++ 10 ∷ []) images (image ∷ [])
+    ∙ ap (λ t. shown_levels json images ++ t) (append-nil (shown_level json image ++ 10 ∷ []) ∙ ap (λ t. t ++ 10 ∷ []) (sym (shown_is json image told tells)))
+
+-- the line of the next level
+pub level-line : (json : Bool) (images : List Image) (number : ℕ) (numbers : Numbers) (before now after : Option (List ℕ)) → IsSomeAnd (slice_get images number) (λ image. AreNumbersOf image numbers)
+    → Appends before now (shown_levels json (take number images)) → Appends now after (shown_told json numbers.told ++ 10 ∷ []) → Appends before after (shown_levels json (take (number + 1) images))
+level-line json images number numbers before now after there so_far line =
+    let (image, found, are) = image_of (slice_get images number) (λ image. AreNumbersOf image numbers) there in
+    let lines = ap (shown_levels json) (take-read images number image found) ∙ shown_levels-push json (take number images) image numbers.told are.told in
+    subst (Appends before after) (sym lines) (Appends-trans before now after _ _ so_far line)

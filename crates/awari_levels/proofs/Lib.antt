@@ -1,0 +1,12 @@
+pub mod ChoiceLaws
+pub mod CountLaws
+pub mod FolderLaws
+pub mod HeldLaws
+pub mod ListingLaws
+pub mod ShareLaws
+pub mod SourceLaws
+pub mod TallyLaws
+pub mod TextLaws
+pub mod WalkLaws
+pub mod WantedLaws
+pub mod WishLaws

@@ -1,0 +1,11 @@
+pub mod Batches
+pub mod Boards
+pub mod Counts
+pub mod Folders
+pub mod Listing
+pub mod Numbers
+pub mod Segments
+pub mod Tallies
+pub mod Texts
+pub mod Walks
+pub mod Wishes

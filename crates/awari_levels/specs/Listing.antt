@@ -1,0 +1,161 @@
+-- The commands `boards` and `text --boards`: which boards of a level are wanted, and what is printed of them.
+use Rattle.std.specs.Prelude.{ℕ, ◌+◌, ◌%◌, ◌==◌, nat_lt, Bool, not, ◌&&◌, ◌||◌, if◌then◌else◌, List, ◌++◌, ◌∷◌, [], length, filter, map, codes, pos, Option, Some, None, ℤ}
+use Rattle.std.specs.Fmt.{decimal, signed_decimal}
+use Rattle.std.specs.Io.KnownBytes.{Appends}
+use Rattle.std.specs.List.{flat_map}
+use Rattle.awari_board.specs.Rules.{own_stones}
+use Rattle.awari_board.specs.Text.{text_of}
+use Rattle.awari_facts.specs.Facts.{captures_by, gains_in, keeping_moves, greediest, legal_moves, lost_by, moves_gaining, waits}
+use Rattle.awari_facts.specs.Numbers.{number_in}
+use Rattle.awari_facts.specs.declared.looks.Gained.{Gained}
+use Rattle.awari_queries.specs.Draws.{draw_of, taken}
+use Rattle.awari_queries.specs.Holding.{first_by}
+use Rattle.awari_queries.specs.Orders.{key_of}
+use Rattle.awari_queries.specs.Spans.{has, is_in}
+use Rattle.awari_play.specs.Json.{commas, entry_members, member}
+use Rattle.awari_queries.specs.declared.boards.Form.{Form}
+use Rattle.awari_queries.specs.declared.boards.Form.TheVariants.{Text, Csv, Json}
+use Rattle.awari_queries.specs.declared.boards.Spans.{Spans}
+use Rattle.awari_queries.specs.declared.orders.Order.{Order}
+use Rattle.awari_rank.specs.Tuples.{tuples}
+use Rattle.awari_table.specs.Images.{entry_of, greatest_dist}
+use Rattle.awari_table.specs.Spelling.{plan_text}
+use Rattle.awari_table.specs.declared.images.Entry.{Entry}
+use Rattle.awari_table.specs.declared.images.Image.{Image}
+use Rattle.awari_levels.specs.declared.batches.LineNumbers.{LineNumbers}
+use Rattle.awari_levels.specs.declared.wanted.Wanted.{Wanted}
+
+-- the plan's pit, or nothing for none
+abbrev pub plan_field : Option ℕ → List ℕ
+plan_field None = []
+plan_field (Some pit) = decimal pit
+
+-- The line of a board up to the distance: with spaces (32); of CSV with the board in quotes (34), and commas (44); or an object
+-- (123) that is not closed.
+unfoldable pub stem_of : Form → List ℕ → Entry → List ℕ
+stem_of Text board e = text_of board ++ 32 ∷ (signed_decimal e.value ++ 32 ∷ (plan_text e.plan ++ 32 ∷ decimal e.dist))
+stem_of Csv board e = 34 ∷ (text_of board ++ 34 ∷ 44 ∷ (signed_decimal e.value ++ 44 ∷ (plan_field e.plan ++ 44 ∷ decimal e.dist)))
+stem_of Json board e = 123 ∷ commas (entry_members board e)
+
+-- a number on request behind it: behind a space, a comma, or as a member of this name
+unfoldable pub added_text : Form → List ℕ → Option ℕ → List ℕ
+added_text form name None = []
+added_text Text name (Some n) = 32 ∷ decimal n
+added_text Csv name (Some n) = 44 ∷ decimal n
+added_text Json name (Some n) = 44 ∷ member name (decimal n)
+
+-- the end: a line feed (10), behind the object's brace (125)
+unfoldable pub end_of : Form → List ℕ
+end_of Text = 10 ∷ []
+end_of Csv = 10 ∷ []
+end_of Json = 125 ∷ 10 ∷ []
+
+-- the numbers of a board's line: its entry, and how many moves are legal and keep its value, if they are asked for
+abbrev pub numbers_of : Wanted → List Image → List ℕ → LineNumbers
+numbers_of wanted images board = record {
+  entry = entry_of images board;
+  moves = if wanted.with_moves then Some (legal_moves board) else None;
+  keep = if wanted.with_keep then Some (keeping_moves images board) else None;
+}
+
+-- the line of a board
+abbrev pub line_of : Form → List ℕ → LineNumbers → List ℕ
+line_of form board n = stem_of form board n.entry ++ (added_text form (codes "moves") n.moves ++ (added_text form (codes "keep") n.keep ++ end_of form))
+
+abbrev pub board_line : Wanted → List Image → List ℕ → List ℕ
+board_line wanted images board = line_of wanted.form board (numbers_of wanted images board)
+
+-- the name of a column on request
+abbrev pub added_name : Bool → List ℕ → List ℕ
+added_name added name = if added then 44 ∷ name else []
+
+-- what stands above the lines: of CSV the names of the columns
+unfoldable pub header_text : Form → Bool → Bool → List ℕ
+header_text Text moves keep = []
+header_text Csv moves keep = codes "board,value,plan,distance" ++ (added_name moves (codes "moves") ++ (added_name keep (codes "keep") ++ 10 ∷ []))
+header_text Json moves keep = []
+
+abbrev pub header_of : Wanted → List ℕ
+header_of wanted = header_text wanted.form wanted.with_moves wanted.with_keep
+
+-- the lines of boards, with what the levels say of each
+abbrev pub board_lines : Wanted → List Image → List (List ℕ) → List ℕ
+board_lines wanted images boards = flat_map (board_line wanted images) boards
+
+-- what was written are the lines of these boards, below what stands above them
+abbrev pub AppendsLines : Wanted → List Image → List (List ℕ) → Option (List ℕ) → Option (List ℕ) → Type 0
+AppendsLines wanted images boards before after = Appends before after (header_of wanted ++ board_lines wanted images boards)
+
+-- value, distance and plan are in the spans that are asked for
+unfoldable pub fits : Spans → Entry → Bool
+fits spans e = is_in spans.value e.value && (is_in spans.distance (pos e.dist) && has spans.plan e.plan)
+
+-- a board with this many legal moves has ended or has not, if that is asked for
+abbrev pub is_of_kind : Wanted → ℕ → Bool
+is_of_kind wanted moves = not (wanted.ended && nat_lt 0 moves) && not (wanted.running && moves == 0)
+
+-- what the rules say of the board is as it is asked for: its stones, its moves, and what the plan captures
+unfoldable pub suits : Wanted → List ℕ → Entry → Bool
+suits wanted board e =
+    is_in wanted.spans.side (pos (own_stones board)) && (is_in wanted.spans.moves (pos (legal_moves board)) && (has wanted.spans.captures (captures_by board e.plan)
+    && is_of_kind wanted (legal_moves board)))
+
+-- what these moves gain is as it is asked for, on a board of this value: how many keep it, and what the largest capture throws away
+abbrev pub weighs : Spans → List (Option Gained) → ℤ → Bool
+weighs spans moves value = is_in spans.keep (pos (moves_gaining value moves)) && is_in spans.trap (lost_by value (greediest moves))
+
+-- so it is of the board, by what the levels say, and it is a burden to move, if that is asked for
+unfoldable pub is_weighed : Wanted → List Image → List ℕ → Bool
+is_weighed wanted images board = weighs wanted.spans (gains_in images board) (entry_of images board).value && not (wanted.waits && not (waits images board))
+
+-- the board has all of that
+unfoldable pub is_within : Wanted → List Image → List ℕ → Bool
+is_within wanted images board =
+    fits wanted.spans (entry_of images board) && (suits wanted board (entry_of images board) && is_weighed wanted images board)
+
+-- what a board is sorted by, if it has all of that
+abbrev pub sort_key : Option Order → List Image → List ℕ → ℤ
+sort_key None images board = pos 0
+sort_key (Some order) images board = key_of order (number_in images order.by board)
+
+unfoldable pub key_if : Wanted → List Image → List ℕ → Option ℤ
+key_if wanted images board = if is_within wanted images board then Some (sort_key wanted.order images board) else None
+
+-- the greatest distance of those of these boards, 0 if there are none
+abbrev pub farthest_among : Wanted → List Image → List (List ℕ) → ℕ
+farthest_among wanted images boards = greatest_dist (map (entry_of images) (filter (is_within wanted images) boards))
+
+-- That of the boards of a level, if the farthest are asked for: `tuples 12 level` are the boards with this many stones in
+-- lexicographic order.
+unfoldable pub farthest_of : Wanted → List Image → ℕ → ℕ
+farthest_of wanted images level = if wanted.farthest then farthest_among wanted images (tuples 12 level) else 0
+
+-- the board has all of that, and has this distance, if the farthest are asked for
+unfoldable pub passes : Wanted → ℕ → List Image → List ℕ → Bool
+passes wanted farthest images board = is_within wanted images board && (not wanted.farthest || (entry_of images board).dist == farthest)
+
+-- each k-th of a list, where this many came before it
+abbrev pub each : {A : Type 0} → ℕ → ℕ → List A → List A
+each k before [] = []
+each k before (x ∷ xs) = if (before + 1) % k == 0 then x ∷ each k (before + 1) xs else each k (before + 1) xs
+
+-- those of these boards of a level that pass, in order of rank
+abbrev pub passing : Wanted → List Image → ℕ → List (List ℕ) → List (List ℕ)
+passing wanted images level boards = filter (passes wanted (farthest_of wanted images level) images) boards
+
+-- each of those boards that is due
+abbrev pub due_boards : Wanted → List Image → ℕ → List (List ℕ)
+due_boards wanted images level = each wanted.every 0 (passing wanted images level (tuples 12 level))
+
+-- those of them that are taken
+unfoldable pub taken_boards : Wanted → List Image → ℕ → List (List ℕ)
+taken_boards wanted images level = taken (draw_of wanted.random wanted.seed (length (due_boards wanted images level))) (due_boards wanted images level)
+
+-- all of these boards, or the first ones by a number
+abbrev pub first_of : Option Order → List Image → List (List ℕ) → List (List ℕ)
+first_of None images boards = boards
+first_of (Some order) images boards = first_by order.most (sort_key (Some order) images) boards
+
+-- the boards that are wanted of a level
+unfoldable pub wanted_boards : Wanted → List Image → ℕ → List (List ℕ)
+wanted_boards wanted images level = first_of wanted.order images (taken_boards wanted images level)

@@ -1,0 +1,221 @@
+//! The commands `boards` and `text --boards`: the boards of a level with what is known of them.
+
+ghost use Rattle.std.specs.Io.KnownBytes.{Appends};
+ghost use Rattle.std.specs.Prelude.{◌≡◌, ◌≤◌, ◌<◌, ◌+◌, true, List, IfErr, IfOk, Ok};
+ghost use Rattle.awari_facts.specs.Sources.{SaysBy, levels_of};
+ghost use Rattle.awari_folder.specs.Contents.{Same};
+ghost use Rattle.awari_folder.specs.State.{Unchanged};
+ghost use Rattle.awari_table.specs.declared.images.Image.{Image};
+ghost use Rattle.awari_levels.specs.Boards.{AppendsWanted, IsRefused, IsWanted, PrintsAllBoards, PrintsBoardsBy, all_lines};
+
+use crate::listing::{count_boards, print_boards};
+use crate::walks::Asked;
+use crate::wanted::Wanted;
+use awari_answers::{NoAnswer, Replies, load_levels, print, refuse, status_of};
+use awari_facts::{Source, load_to, open_to};
+use awari_folder::{Folder, FolderFault};
+use awari_queries::{BoardsQuery, Form, Spans, asked_order, asked_spans, form_of};
+use awari_table::{HIGHEST_LEVEL, Shelf};
+use std::alloc::Global;
+use std::io::Write;
+use std::thread::Threads;
+
+/// All boards of a level.
+const ALL: Wanted = Wanted {
+    spans: Spans {
+        value: None,
+        distance: None,
+        plan: None,
+        captures: None,
+        side: None,
+        moves: None,
+        keep: None,
+        trap: None,
+    },
+    waits: false,
+    ended: false,
+    running: false,
+    farthest: false,
+    every: 1,
+    random: 0,
+    seed: 0,
+    order: None,
+    with_moves: false,
+    with_keep: false,
+    count: false,
+    form: Form::Text,
+};
+
+/// The boards that the query asks for. It is refused as 95 if what it asks for is no span, and as 96 if it is
+/// no order.
+pub fn wanted_of(query: &BoardsQuery<'_>) -> Result<Wanted, NoAnswer>
+    ensures wanted { IfOk result (IsWanted query.now) }
+    ensures none { IfErr result (IsRefused query.now) }
+{
+    let Ok(spans) = asked_spans(&query.spans) else {
+        return Err(NoAnswer::Span);
+    };
+    let Ok(order) = asked_order(query.sort, query.most) else {
+        return Err(NoAnswer::Column);
+    };
+    Ok(Wanted {
+        spans,
+        waits: query.waits,
+        ended: query.ended,
+        running: query.running,
+        farthest: query.farthest,
+        every: query.every.max(1),
+        random: query.random,
+        seed: query.seed,
+        order,
+        with_moves: query.with_moves,
+        with_keep: query.with_keep,
+        count: query.count,
+        form: form_of(query.json, query.csv),
+    })
+}
+
+/// Prints how many boards are wanted, or a line for each, and says whether the writer took that. Conditions:
+/// the source has the level, and not each 0th board is wanted.
+fn print_wanted<R: Threads + Sync, F: Folder, W: Write>(
+    rt: &R,
+    alloc: Global,
+    folder: &mut F,
+    asked: Asked<'_>,
+    writer: &mut W,
+) -> Result<bool, FolderFault>
+    requires level { asked.level < levels_of asked.source }
+    requires few { levels_of asked.source ≤ HIGHEST_LEVEL + 1 }
+    requires every { 0 < asked.wanted.now.every }
+    ensures printed { (images : List Image) → SaysBy asked.entry.source (F.state folder.old).stands images → result ≡ Ok true
+        → AppendsWanted images asked.entry.level asked.entry.wanted.now (W.contents writer.old) (W.contents writer.new) }
+    ensures same { Unchanged (F.state folder.old) (F.state folder.new) }
+{
+    if !asked.wanted.count {
+        return print_boards(rt, alloc, folder, asked, writer);
+    }
+    let count = count_boards(rt, alloc, folder, asked)?;
+    Ok(print(writer, &count))
+}
+
+/// Prints the same, or the refusal, and gives the status. Conditions as for [`print_wanted`].
+fn run_asked<R: Threads + Sync, F: Folder, W: Replies>(
+    rt: &R,
+    alloc: Global,
+    folder: &mut F,
+    asked: Asked<'_>,
+    writer: &mut W,
+) -> u8
+    requires level { asked.level < levels_of asked.source }
+    requires few { levels_of asked.source ≤ HIGHEST_LEVEL + 1 }
+    requires every { 0 < asked.wanted.now.every }
+    ensures status { result ≤ 1 }
+    ensures printed { (images : List Image) → SaysBy asked.entry.source (F.state folder.old).stands images → result ≡ 0
+        → AppendsWanted images asked.entry.level asked.entry.wanted.now (W.contents writer.old) (W.contents writer.new) }
+    ensures same { Unchanged (F.state folder.old) (F.state folder.new) }
+{
+    match print_wanted(rt, alloc, folder, asked, writer) {
+        Ok(written) => status_of(written),
+        Err(fault) => refuse(writer, fault),
+    }
+}
+
+/// Prints the boards of a level that the query asks for, by rank or sorted, or how many there are, or the
+/// refusal. It takes memory for the levels, for boards that threads look at, and for those that are sorted. If
+/// it asks for files that nobody verified, it takes none for levels.
+pub fn run_boards<T: Threads + Sync, F: Folder, W: Replies>(
+    rt: &T,
+    alloc: Global,
+    folder: &mut F,
+    query: &BoardsQuery<'_>,
+    writer: &mut W,
+) -> u8
+    ensures status { result ≤ 1 }
+    ensures same { Same (F.state folder.old).stands (F.state folder.new).stands }
+    ensures found { result ≡ 0 → PrintsBoardsBy query.now.unverified (F.state folder.old).stands query.now (W.contents writer.old) (W.contents writer.new) }
+{
+    let wanted = match wanted_of(query) {
+        Ok(wanted) => wanted,
+        Err(fault) => return refuse(writer, fault),
+    };
+    if query.unverified {
+        let opened = match open_to(folder, query.level) {
+            Ok(opened) => opened,
+            Err(fault) => return refuse(writer, fault),
+        };
+        let asked = Asked {
+            source: Source::Files(opened.levels),
+            level: query.level,
+            wanted: &wanted,
+        };
+        return run_asked(rt, alloc, folder, asked, writer);
+    }
+    let shelf = match load_to(rt, alloc, folder, query.level) {
+        Ok(shelf) => shelf,
+        Err(fault) => return refuse(writer, fault),
+    };
+    let asked = Asked {
+        source: Source::Shelf(&shelf),
+        level: query.level,
+        wanted: &wanted,
+    };
+    run_asked(rt, alloc, folder, asked, writer)
+}
+
+/// Prints all boards of all levels, and says whether the writer took them.
+fn print_levels<R: Threads + Sync, F: Folder, W: Write>(
+    rt: &R,
+    alloc: Global,
+    folder: &mut F,
+    shelf: &Shelf,
+    writer: &mut W,
+) -> Result<bool, FolderFault>
+    ensures printed { result ≡ Ok true → Appends (W.contents writer.old) (W.contents writer.new) (all_lines shelf.now) }
+    ensures same { Unchanged (F.state folder.old) (F.state folder.new) }
+{
+    for level in 0..shelf.levels() {
+        let asked = Asked {
+            source: Source::Shelf(shelf),
+            level,
+            wanted: &ALL,
+        };
+        if !print_boards(rt, alloc, folder, asked, writer)? {
+            return Ok(false);
+        }
+    }
+    Ok(true)
+}
+
+/// Prints all boards of the level of this number, or of all levels in a folder, or the refusal.
+pub fn run_all_boards<T: Threads + Sync, F: Folder, W: Replies>(
+    rt: &T,
+    alloc: Global,
+    folder: &mut F,
+    level: Option<u8>,
+    writer: &mut W,
+) -> u8
+    ensures status { result ≤ 1 }
+    ensures same { Same (F.state folder.old).stands (F.state folder.new).stands }
+    ensures found { result ≡ 0 → PrintsAllBoards (F.state folder.old).stands level (W.contents writer.old) (W.contents writer.new) }
+{
+    let Some(level) = level else {
+        let shelf = match load_levels(rt, alloc, folder, HIGHEST_LEVEL) {
+            Ok(shelf) => shelf,
+            Err(fault) => return refuse(writer, fault),
+        };
+        return match print_levels(rt, alloc, folder, &shelf, writer) {
+            Ok(written) => status_of(written),
+            Err(fault) => refuse(writer, fault),
+        };
+    };
+    let shelf = match load_to(rt, alloc, folder, level) {
+        Ok(shelf) => shelf,
+        Err(fault) => return refuse(writer, fault),
+    };
+    let asked = Asked {
+        source: Source::Shelf(&shelf),
+        level,
+        wanted: &ALL,
+    };
+    run_asked(rt, alloc, folder, asked, writer)
+}

@@ -1,0 +1,281 @@
+//! The command `counts`: the levels of a folder in numbers.
+
+ghost use Rattle.std.specs.Prelude.{◌≡◌, ◌<◌, ◌≤◌, ◌+◌, List, IfOk, IfSome, IsSomeAnd, Ok, length, slice_get, true};
+ghost use Rattle.std.specs.Io.KnownBytes.{Appends};
+ghost use Rattle.awari_answers.specs.LevelLines.{IsToldOf};
+ghost use Rattle.awari_folder.specs.Contents.{Same};
+ghost use Rattle.awari_folder.specs.State.{Unchanged};
+ghost use Rattle.awari_rank.specs.Rank.{size_of};
+ghost use Rattle.awari_table.specs.declared.TheConstants.{HIGHEST_LEVEL};
+ghost use Rattle.awari_table.specs.declared.images.Entry.{Entry as AnEntry};
+ghost use Rattle.awari_table.specs.declared.images.Image.{Image};
+ghost use Rattle.awari_levels.specs.Counts.{AppendsCounts, PrintsCountsBy, PrintsCountsSaid, count_lines, distance_lines, shown_levels, value_lines};
+ghost use Rattle.awari_levels.specs.Numbers.{AreNumbersOf, HasLevels, HasOpened};
+ghost use Rattle.awari_facts.specs.Sources.{SaysBy, levels_of};
+ghost use Rattle.awari_levels.specs.Tallies.{AreByDistance, AreByValue, IsTallyOf};
+
+use crate::shown::{print_distance, print_level, print_value};
+use crate::tallies::{Tally, VALUES, tally_level, value_of};
+use arrayvec::ArrayString;
+use awari_answers::{LevelLine, NoAnswer, Replies, load_levels, refuse, refuse_json, status_of};
+use awari_facts::{Source, count_levels, load_to, open_all, open_to, read_limit};
+use awari_folder::{Folder, FolderFault};
+use awari_places::Opened;
+use awari_queries::CountsQuery;
+use awari_rank::size;
+use awari_table::{Counts, HIGHEST_LEVEL, Shelf};
+use std::alloc::Global;
+use std::fmt::Write as _;
+use std::io::Write;
+use std::thread::Threads;
+
+/// A level in numbers.
+#[derive(Drop)]
+struct Numbers {
+    told: LevelLine,
+    tally: Tally,
+}
+
+/// Prints a line for each value that some boards have, and says whether the writer took them. These are
+/// how many boards have each.
+fn print_values<W: Write>(counts: &[u32], json: bool, writer: &mut W) -> bool
+    requires { length counts.now ≡ VALUES }
+    ensures { (entries : List AnEntry) → AreByValue entries counts.now → result ≡ true → Appends (W.contents writer.old) (W.contents writer.new) (value_lines json entries) }
+{
+    for place in 0..VALUES {
+        let boards = counts[place];
+        if boards == 0 {
+            continue;
+        }
+        let value = value_of(place);
+        if !print_value(value, boards, json, writer) {
+            return false;
+        }
+    }
+    true
+}
+
+/// Prints a line for each distance up to the limit that some boards have, and says whether the writer took
+/// them. These are how many boards have each.
+fn print_distances<W: Write>(limit: u32, counts: &[u32], json: bool, writer: &mut W) -> bool
+    requires { length counts.now ≡ limit + 1 }
+    ensures { (entries : List AnEntry) → AreByDistance limit entries counts.now → result ≡ true → Appends (W.contents writer.old) (W.contents writer.new) (distance_lines json limit entries) }
+{
+    for place in 0..limit as usize + 1 {
+        let boards = counts[place];
+        if boards == 0 {
+            continue;
+        }
+        if !print_distance(place as u32, boards, json, writer) {
+            return false;
+        }
+    }
+    true
+}
+
+/// A level in numbers. Condition: the source has the level. It looks at each entry once, and takes memory
+/// for four bytes a distance. It is refused as 83 with V7 if the limit is not the greatest distance.
+fn numbers_of<F: Folder>(
+    alloc: Global,
+    source: Source<'_>,
+    folder: &mut F,
+    level: u8,
+) -> Result<Numbers, FolderFault>
+    requires level { level < levels_of source }
+    requires low { level ≤ HIGHEST_LEVEL }
+    ensures counted { IfOk result (λ numbers. (entries : List AnEntry) × IsTallyOf numbers.told.limit entries numbers.tally) }
+    ensures said { (images : List Image) → SaysBy source.entry (F.state folder.old).stands images
+        → IfOk result (λ numbers. IsSomeAnd (slice_get images level) (λ image. AreNumbersOf image numbers)) }
+    ensures same { Unchanged (F.state folder.old) (F.state folder.new) }
+{
+    let limit = match read_limit(source, folder, level) {
+        Ok(limit) => limit,
+        Err(fault) => return Err(fault),
+    };
+    let tally = match tally_level(alloc, source, folder, level, limit) {
+        Ok(tally) => tally,
+        Err(fault) => return Err(fault),
+    };
+    Ok(numbers_from(level, limit, tally))
+}
+
+/// The numbers of a level of this limit whose boards are counted.
+fn numbers_from(level: u8, limit: u32, tally: Tally) -> Numbers
+    requires { level ≤ HIGHEST_LEVEL }
+    ensures limit { result.told.limit ≡ limit }
+    ensures tally { result.tally ≡ tally }
+    ensures told { (image : Image) → image.level ≡ level → image.limit ≡ limit → length image.entries ≡ size_of level → IsTallyOf limit image.entries tally → IsToldOf image result.told }
+{
+    let told = LevelLine {
+        level,
+        boards: size(level),
+        counts: Counts {
+            won: tally.signs[2],
+            even: tally.signs[1],
+            lost: tally.signs[0],
+        },
+        limit,
+    };
+    Numbers { told, tally }
+}
+
+/// Prints the line of a level, and those of its values and distances, and says whether the writer took
+/// them.
+fn print_numbers<W: Write>(numbers: &Numbers, json: bool, writer: &mut W) -> bool
+    requires { (entries : List AnEntry) × IsTallyOf numbers.now.told.limit entries numbers.now.tally }
+    ensures { (image : Image) → AreNumbersOf image numbers.now → result ≡ true → Appends (W.contents writer.old) (W.contents writer.new) (count_lines json image) }
+{
+    let told = numbers.told;
+    if !print_level(told, json, writer) {
+        return false;
+    }
+    if !print_values(&numbers.tally.values, json, writer) {
+        return false;
+    }
+    print_distances(told.limit, numbers.tally.distances.as_slice(), json, writer)
+}
+
+/// Prints the line of each level, and says whether the writer took them.
+fn print_levels<F: Folder, W: Write>(
+    alloc: Global,
+    source: Source<'_>,
+    folder: &mut F,
+    json: bool,
+    writer: &mut W,
+) -> Result<bool, FolderFault>
+    requires { levels_of source ≤ HIGHEST_LEVEL + 1 }
+    ensures printed { (images : List Image) → SaysBy source.entry (F.state folder.old).stands images → result ≡ Ok true
+        → Appends (W.contents writer.old) (W.contents writer.new) (shown_levels json images) }
+    ensures same { Unchanged (F.state folder.old) (F.state folder.new) }
+{
+    for number in 0..count_levels(source) {
+        let told = match numbers_of(alloc, source, folder, number) {
+            Ok(numbers) => numbers.told,
+            Err(fault) => return Err(fault),
+        };
+        if !print_level(told, json, writer) {
+            return Ok(false);
+        }
+    }
+    Ok(true)
+}
+
+/// Prints what is asked of the levels of the source, and says whether the writer took that. Condition: the
+/// one level that is asked for is there.
+fn print_counts<F: Folder, W: Write>(
+    alloc: Global,
+    source: Source<'_>,
+    folder: &mut F,
+    query: CountsQuery<'_>,
+    writer: &mut W,
+) -> Result<bool, FolderFault>
+    requires few { levels_of source ≤ HIGHEST_LEVEL + 1 }
+    requires level { IfSome query.level (λ level. level < levels_of source) }
+    ensures printed { (images : List Image) → SaysBy source.entry (F.state folder.old).stands images → result ≡ Ok true
+        → AppendsCounts query.entry.json query.entry.level images (W.contents writer.old) (W.contents writer.new) }
+    ensures same { Unchanged (F.state folder.old) (F.state folder.new) }
+{
+    let Some(level) = query.level else {
+        return print_levels(alloc, source, folder, query.json, writer);
+    };
+    match numbers_of(alloc, source, folder, level) {
+        Ok(numbers) => Ok(print_numbers(&numbers, query.json, writer)),
+        Err(fault) => Err(fault),
+    }
+}
+
+/// Prints the refusal, and gives the status 1.
+fn refuse_counts<W: Replies>(writer: &mut W, query: CountsQuery<'_>, fault: NoAnswer) -> u8
+    ensures { result ≡ 1 }
+{
+    if !query.json {
+        return refuse(writer, fault);
+    }
+    let mut word = ArrayString::<3>::new();
+    if let Some(level) = query.level {
+        // There is room for any level.
+        let _ = write!(word, "{level}");
+    }
+    refuse_json(writer, "counts", word.as_str(), fault)
+}
+
+/// The levels in a folder, up to the one of this number if there is one.
+fn load_for<T: Threads + Sync, F: Folder>(
+    rt: &T,
+    alloc: Global,
+    folder: &mut F,
+    level: Option<u8>,
+) -> Result<Shelf, NoAnswer>
+    ensures levels { IfOk result (HasLevels level (F.state folder.old).stands) }
+    ensures same { Same (F.state folder.old).stands (F.state folder.new).stands }
+{
+    if let Some(number) = level {
+        return load_to(rt, alloc, folder, number);
+    }
+    match load_levels(rt, alloc, folder, HIGHEST_LEVEL) {
+        Ok(shelf) => Ok(shelf),
+        Err(fault) => Err(NoAnswer::Folder { fault }),
+    }
+}
+
+/// Prints the line of each level in a folder, or the line of the one of this number with those of its
+/// values and distances, or the refusal. It takes memory for the levels, if they are to be verified, and
+/// four bytes for each distance.
+pub fn run_counts<T: Threads + Sync, F: Folder, W: Replies>(
+    rt: &T,
+    alloc: Global,
+    folder: &mut F,
+    query: CountsQuery<'_>,
+    writer: &mut W,
+) -> u8
+    ensures status { result ≤ 1 }
+    ensures same { Same (F.state folder.old).stands (F.state folder.new).stands }
+    ensures found { result ≡ 0 → PrintsCountsBy query.entry.unverified query.entry.json (F.state folder.old).stands query.entry.level (W.contents writer.old) (W.contents writer.new) }
+{
+    if query.unverified {
+        return run_counts_said(alloc, folder, query, writer);
+    }
+    let shelf = match load_for(rt, alloc, folder, query.level) {
+        Ok(shelf) => shelf,
+        Err(fault) => return refuse_counts(writer, query, fault),
+    };
+    // For the proof: the levels are a shelf.
+    let _levels = shelf.levels();
+    match print_counts(alloc, Source::Shelf(&shelf), folder, query, writer) {
+        Ok(written) => status_of(written),
+        Err(fault) => refuse_counts(writer, query, NoAnswer::Folder { fault }),
+    }
+}
+
+/// Prints the same by what the files say.
+fn run_counts_said<F: Folder, W: Replies>(
+    alloc: Global,
+    folder: &mut F,
+    query: CountsQuery<'_>,
+    writer: &mut W,
+) -> u8
+    ensures status { result ≤ 1 }
+    ensures same { Same (F.state folder.old).stands (F.state folder.new).stands }
+    ensures found { result ≡ 0 → PrintsCountsSaid query.entry.json (F.state folder.old).stands query.entry.level (W.contents writer.old) (W.contents writer.new) }
+{
+    let opened = match open_for(folder, query.level) {
+        Ok(opened) => opened,
+        Err(fault) => return refuse_counts(writer, query, fault),
+    };
+    match print_counts(alloc, Source::Files(opened.levels), folder, query, writer) {
+        Ok(written) => status_of(written),
+        Err(fault) => refuse_counts(writer, query, NoAnswer::Folder { fault }),
+    }
+}
+
+/// The levels in a folder, up to the one of this number if there is one, by the headers of their files.
+fn open_for<F: Folder>(folder: &mut F, level: Option<u8>) -> Result<Opened, NoAnswer>
+    ensures opened { IfOk result (HasOpened level (F.state folder.old).stands) }
+    ensures few { IfOk result (λ opened. opened.levels ≤ HIGHEST_LEVEL + 1) }
+    ensures same { Same (F.state folder.old).stands (F.state folder.new).stands }
+{
+    match level {
+        Some(number) => open_to(folder, number),
+        None => open_all(folder),
+    }
+}

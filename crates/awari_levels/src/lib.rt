@@ -1,0 +1,39 @@
+//! The commands of the program `awari` that answer what is asked of whole levels: whether a folder is right,
+//! its text, and the boards of a level in numbers and in lists. Each prints to a writer that is lent to it,
+//! and gives the status that the program ends with.
+//!
+//! The line of each right level, printed, in `crates/awari_levels/src/verifying.rt`:
+//!
+//!     fn print_levels<W: Write>(shelf: &Shelf, writer: &mut W) -> bool
+//!         ensures { result ≡ true → IsShelf shelf.now × Appends (W.contents writer.old) (W.contents writer.new) (right_lines shelf.now) }
+//!     {
+//!         for level in 0..shelf.levels() {
+//!             let limit = shelf.level(level).limit();
+//!             if !print(writer, &RightLevel { level, limit }) {
+//!                 return false;
+//!             }
+//!         }
+//!         true
+//!     }
+#![tactic(auto)]
+
+mod batches;
+mod boards;
+mod counts;
+mod laws;
+mod listing;
+mod segments;
+mod shown;
+mod tallies;
+mod texts;
+mod verifying;
+mod walks;
+mod wanted;
+mod wishes;
+
+pub use boards::{run_all_boards, run_boards, wanted_of};
+pub use counts::run_counts;
+pub use laws::counts_come_to_the_size;
+pub use texts::run_text;
+pub use verifying::run_verify;
+pub use wanted::Wanted;

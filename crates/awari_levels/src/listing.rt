@@ -1,0 +1,321 @@
+//! The boards of a level that are wanted, counted or printed.
+
+ghost use Rattle.std.specs.Prelude.{◌≡◌, ◌<◌, ◌≤◌, ◌+◌, ℕ, true, if◌then◌else◌, max, List, length, All, IfOk, None, Ok, Some};
+ghost use Rattle.awari_facts.specs.Facts.{keeping_moves};
+ghost use Rattle.awari_facts.specs.Numbers.{IsAt};
+ghost use Rattle.awari_facts.specs.Sources.{SaysBy, levels_of};
+ghost use Rattle.awari_folder.specs.State.{Unchanged};
+ghost use Rattle.awari_queries.specs.Draws.{taken};
+ghost use Rattle.awari_queries.specs.declared.holding.Held.{Held as AHeld};
+ghost use Rattle.awari_rank.specs.Rank.{size_of};
+ghost use Rattle.awari_table.specs.declared.TheConstants.{HIGHEST_LEVEL};
+ghost use Rattle.awari_table.specs.declared.images.Image.{Image};
+ghost use Rattle.awari_levels.specs.Listing.{AppendsLines, due_boards, farthest_of, numbers_of, taken_boards, wanted_boards};
+ghost use Rattle.awari_levels.specs.Walks.{AreHeld, IsChoice};
+
+use crate::batches::{LineNumbers, new_batch, push_board};
+use crate::walks::{Asked, Choice, look, new_walk, segment_for, step};
+use awari_answers::print_bytes;
+use awari_facts::{Seen, entry_at, gains_of, legal_moves, moves_gaining, read_entry};
+use awari_folder::{Folder, FolderFault};
+use awari_packed::PackedBoard;
+use awari_places::Run;
+use awari_queries::{Held, Order, draw_of, hold};
+use awari_rank::{size, unrank};
+use std::alloc::Global;
+use std::io::Write;
+use std::thread::Threads;
+
+/// A distance, if it is that of a board within and farther than the farthest before it, else that one's.
+fn farther(within: bool, farthest: u32, distance: u32) -> u32
+    ensures { result ≡ (if within then max farthest distance else farthest) }
+{
+    if within {
+        farthest.max(distance)
+    } else {
+        farthest
+    }
+}
+
+/// The greatest distance of the boards of a level that have what is wanted of each, if the farthest are asked
+/// for, else 0. Condition: the source has the level.
+fn find_farthest<R: Threads + Sync, F: Folder>(
+    rt: &R,
+    alloc: Global,
+    folder: &mut F,
+    asked: Asked<'_>,
+) -> Result<u32, FolderFault>
+    requires level { asked.level < levels_of asked.source }
+    requires few { levels_of asked.source ≤ HIGHEST_LEVEL + 1 }
+    ensures farthest { (images : List Image) → SaysBy asked.entry.source (F.state folder.old).stands images → IfOk result (λ found. found ≡ farthest_of asked.entry.wanted.now images asked.entry.level) }
+    ensures same { Unchanged (F.state folder.old) (F.state folder.new) }
+{
+    let level = asked.level;
+    if !asked.wanted.farthest {
+        return Ok(0);
+    }
+    let mut segment = segment_for(alloc, asked)?;
+    let mut run = Run::new();
+    let mut farthest = 0;
+    for rank in 0..size(level) {
+        let entry = read_entry(asked.source, folder, &mut run, level, rank)?;
+        let seen = Seen { level, rank, entry };
+        let key = look(rt, folder, asked, &mut segment, &seen)?;
+        farthest = farther(key.is_some(), farthest, entry.dist);
+    }
+    Ok(farthest)
+}
+
+/// How many boards of a level are taken. Conditions: the source has the level, and not each 0th board is
+/// wanted.
+fn count_taken<R: Threads + Sync, F: Folder>(
+    rt: &R,
+    alloc: Global,
+    folder: &mut F,
+    choice: Choice<'_>,
+) -> Result<u32, FolderFault>
+    requires level { choice.asked.level < levels_of choice.asked.source }
+    requires few { levels_of choice.asked.source ≤ HIGHEST_LEVEL + 1 }
+    requires every { 0 < choice.asked.wanted.now.every }
+    ensures counted { (images : List Image) → SaysBy choice.entry.asked.source (F.state folder.old).stands images → choice.entry.farthest ≡ farthest_of choice.entry.asked.wanted.now images choice.entry.asked.level
+        → IfOk result (λ n. n ≡ length (taken choice.entry.sample (due_boards choice.entry.asked.wanted.now images choice.entry.asked.level))) }
+    ensures same { Unchanged (F.state folder.old) (F.state folder.new) }
+{
+    let mut walk = new_walk(alloc, choice.asked, choice.sample)?;
+    let mut count = 0u32;
+    for rank in 0..size(choice.asked.level) {
+        if step(rt, folder, choice, &mut walk, rank)?.is_some() {
+            count += 1;
+        }
+    }
+    Ok(count)
+}
+
+/// What has to be known before the boards of a level are listed. Conditions as for [`count_taken`].
+fn choose<'a, R: Threads + Sync, F: Folder>(
+    rt: &R,
+    alloc: Global,
+    folder: &mut F,
+    asked: Asked<'a>,
+) -> Result<Choice<'a>, FolderFault>
+    requires level { asked.level < levels_of asked.source }
+    requires few { levels_of asked.source ≤ HIGHEST_LEVEL + 1 }
+    requires every { 0 < asked.wanted.now.every }
+    ensures chosen { (images : List Image) → SaysBy asked.entry.source (F.state folder.old).stands images → IfOk result (IsChoice asked.entry.wanted.now images asked.entry.level) }
+    ensures asked { IfOk result (λ choice. choice.asked ≡ asked.entry) }
+    ensures same { Unchanged (F.state folder.old) (F.state folder.new) }
+{
+    let farthest = find_farthest(rt, alloc, folder, asked)?;
+    let all = Choice {
+        asked,
+        farthest,
+        sample: None,
+    };
+    let wanted = asked.wanted;
+    if wanted.random == 0 {
+        return Ok(all);
+    }
+    let due = count_taken(rt, alloc, folder, all)?;
+    let sample = draw_of(wanted.random, u64::from(wanted.seed), due);
+    Ok(Choice { sample, ..all })
+}
+
+/// The moves of a board that keep its value, if that is asked for. Conditions: the level is there, and has so
+/// many boards.
+fn keeping<F: Folder>(
+    folder: &mut F,
+    asked: Asked<'_>,
+    seen: &Seen,
+) -> Result<Option<u8>, FolderFault>
+    requires level { seen.now.level < levels_of asked.source }
+    requires few { levels_of asked.source ≤ HIGHEST_LEVEL + 1 }
+    requires rank { seen.now.rank < size_of seen.now.level }
+    ensures keeping { (images : List Image) → SaysBy asked.entry.source (F.state folder.old).stands images → (board : List ℕ) → IsAt images seen.now.level seen.now.rank board seen.now.entry
+        → IfOk result (λ keep. keep ≡ (if asked.entry.wanted.now.with_keep then Some (keeping_moves images board) else None)) }
+    ensures same { Unchanged (F.state folder.old) (F.state folder.new) }
+{
+    if !asked.wanted.with_keep {
+        return Ok(None);
+    }
+    let moves = gains_of(asked.source, folder, &seen.board())?;
+    Ok(Some(moves_gaining(&moves, seen.entry.value)))
+}
+
+/// The numbers of a board's line. Conditions: the level is there, and has that many boards.
+fn numbers_of<F: Folder>(
+    folder: &mut F,
+    asked: Asked<'_>,
+    seen: &Seen,
+) -> Result<LineNumbers, FolderFault>
+    requires level { seen.now.level < levels_of asked.source }
+    requires few { levels_of asked.source ≤ HIGHEST_LEVEL + 1 }
+    requires rank { seen.now.rank < size_of seen.now.level }
+    ensures numbers { (images : List Image) → SaysBy asked.entry.source (F.state folder.old).stands images → (board : List ℕ) → IsAt images seen.now.level seen.now.rank board seen.now.entry
+        → IfOk result (λ n. n ≡ numbers_of asked.entry.wanted.now images board) }
+    ensures same { Unchanged (F.state folder.old) (F.state folder.new) }
+{
+    let keep = keeping(folder, asked, seen)?;
+    let moves = if asked.wanted.with_moves {
+        Some(legal_moves(&seen.board()))
+    } else {
+        None
+    };
+    Ok(LineNumbers {
+        entry: seen.entry,
+        moves,
+        keep,
+    })
+}
+
+/// Prints the boards that are taken, by rank, and says whether the writer took them. Conditions as for
+/// [`count_taken`].
+fn print_taken<R: Threads + Sync, F: Folder, W: Write>(
+    rt: &R,
+    alloc: Global,
+    folder: &mut F,
+    choice: Choice<'_>,
+    writer: &mut W,
+) -> Result<bool, FolderFault>
+    requires level { choice.asked.level < levels_of choice.asked.source }
+    requires few { levels_of choice.asked.source ≤ HIGHEST_LEVEL + 1 }
+    requires every { 0 < choice.asked.wanted.now.every }
+    ensures printed { (images : List Image) → SaysBy choice.entry.asked.source (F.state folder.old).stands images → IsChoice choice.entry.asked.wanted.now images choice.entry.asked.level choice.entry → result ≡ Ok true
+        → AppendsLines choice.entry.asked.wanted.now images (taken_boards choice.entry.asked.wanted.now images choice.entry.asked.level) (W.contents writer.old) (W.contents writer.new) }
+    ensures same { Unchanged (F.state folder.old) (F.state folder.new) }
+{
+    let level = choice.asked.level;
+    let wanted = choice.asked.wanted;
+    let mut walk = new_walk(alloc, choice.asked, choice.sample)?;
+    let mut batch = new_batch(wanted.form, wanted.with_moves, wanted.with_keep);
+    for rank in 0..size(level) {
+        let Some(taken) = step(rt, folder, choice, &mut walk, rank)? else {
+            continue;
+        };
+        let seen = Seen {
+            level,
+            rank,
+            entry: taken.entry,
+        };
+        let numbers = numbers_of(folder, choice.asked, &seen)?;
+        if !push_board(
+            &mut batch,
+            wanted.form,
+            &unrank(level, rank),
+            numbers,
+            writer,
+        ) {
+            return Ok(false);
+        }
+    }
+    Ok(print_bytes(writer, batch.as_slice()))
+}
+
+/// The first ones of the boards that are taken. Conditions as for [`count_taken`]. It takes memory for these.
+fn hold_taken<R: Threads + Sync, F: Folder>(
+    rt: &R,
+    alloc: Global,
+    folder: &mut F,
+    choice: Choice<'_>,
+    order: Order,
+) -> Result<Vec<Held>, FolderFault>
+    requires level { choice.asked.level < levels_of choice.asked.source }
+    requires few { levels_of choice.asked.source ≤ HIGHEST_LEVEL + 1 }
+    requires every { 0 < choice.asked.wanted.now.every }
+    ensures held { (images : List Image) → SaysBy choice.entry.asked.source (F.state folder.old).stands images → IsChoice choice.entry.asked.wanted.now images choice.entry.asked.level choice.entry → Some order ≡ choice.entry.asked.wanted.now.order
+        → IfOk result (λ held. AreHeld choice.entry.asked.wanted.now images choice.entry.asked.level (wanted_boards choice.entry.asked.wanted.now images choice.entry.asked.level) held.items) }
+    ensures few { IfOk result (λ held. All (λ (h : AHeld). h.rank < size_of choice.entry.asked.level) held.items) }
+    ensures same { Unchanged (F.state folder.old) (F.state folder.new) }
+{
+    let mut walk = new_walk(alloc, choice.asked, choice.sample)?;
+    let mut held = Vec::new(alloc);
+    for rank in 0..size(choice.asked.level) {
+        let Some(taken) = step(rt, folder, choice, &mut walk, rank)? else {
+            continue;
+        };
+        let one = Held {
+            number: taken.key,
+            rank,
+        };
+        match hold(&mut held, order.most, one) {
+            Ok(()) => {}
+            Err(_) => return Err(FolderFault::Memory),
+        }
+    }
+    Ok(held)
+}
+
+/// Prints boards that are held, and says whether the writer took them. Conditions: the source has the level,
+/// and that has that many boards.
+fn print_held<F: Folder, W: Write>(
+    folder: &mut F,
+    asked: Asked<'_>,
+    held: &[Held],
+    writer: &mut W,
+) -> Result<bool, FolderFault>
+    requires level { asked.level < levels_of asked.source }
+    requires few { levels_of asked.source ≤ HIGHEST_LEVEL + 1 }
+    requires held { All (λ (h : AHeld). h.rank < size_of asked.level) held.now }
+    ensures printed { (images : List Image) → SaysBy asked.entry.source (F.state folder.old).stands images → (boards : List (List ℕ)) → AreHeld asked.entry.wanted.now images asked.entry.level boards held.now → result ≡ Ok true
+        → AppendsLines asked.entry.wanted.now images boards (W.contents writer.old) (W.contents writer.new) }
+    ensures same { Unchanged (F.state folder.old) (F.state folder.new) }
+{
+    let Asked { level, wanted, .. } = asked;
+    let mut batch = new_batch(wanted.form, wanted.with_moves, wanted.with_keep);
+    for place in 0..held.len() {
+        let rank = held[place].rank;
+        let board = unrank(level, rank);
+        let entry = entry_at(asked.source, folder, &PackedBoard::new(&board))?;
+        let numbers = numbers_of(folder, asked, &Seen { level, rank, entry })?;
+        if !push_board(&mut batch, wanted.form, &board, numbers, writer) {
+            return Ok(false);
+        }
+    }
+    Ok(print_bytes(writer, batch.as_slice()))
+}
+
+/// Prints the boards of a level that are wanted, a line each, and says whether the writer took them. Conditions
+/// as for [`count_taken`]. It takes memory for those that are sorted, and for those that threads look at.
+pub(crate) fn print_boards<R: Threads + Sync, F: Folder, W: Write>(
+    rt: &R,
+    alloc: Global,
+    folder: &mut F,
+    asked: Asked<'_>,
+    writer: &mut W,
+) -> Result<bool, FolderFault>
+    requires level { asked.level < levels_of asked.source }
+    requires few { levels_of asked.source ≤ HIGHEST_LEVEL + 1 }
+    requires every { 0 < asked.wanted.now.every }
+    ensures printed { (images : List Image) → SaysBy asked.entry.source (F.state folder.old).stands images → result ≡ Ok true
+        → AppendsLines asked.entry.wanted.now images (wanted_boards asked.entry.wanted.now images asked.entry.level) (W.contents writer.old) (W.contents writer.new) }
+    ensures same { Unchanged (F.state folder.old) (F.state folder.new) }
+{
+    let choice = choose(rt, alloc, folder, asked)?;
+    match asked.wanted.order {
+        None => print_taken(rt, alloc, folder, choice, writer),
+        Some(order) => {
+            let held = hold_taken(rt, alloc, folder, choice, order)?;
+            print_held(folder, asked, held.as_slice(), writer)
+        }
+    }
+}
+
+/// How many boards of a level are wanted. Conditions as for [`count_taken`].
+pub(crate) fn count_boards<R: Threads + Sync, F: Folder>(
+    rt: &R,
+    alloc: Global,
+    folder: &mut F,
+    asked: Asked<'_>,
+) -> Result<u32, FolderFault>
+    requires level { asked.level < levels_of asked.source }
+    requires few { levels_of asked.source ≤ HIGHEST_LEVEL + 1 }
+    requires every { 0 < asked.wanted.now.every }
+    ensures counted { (images : List Image) → SaysBy asked.entry.source (F.state folder.old).stands images → IfOk result (λ n. n ≡ length (wanted_boards asked.entry.wanted.now images asked.entry.level)) }
+    ensures same { Unchanged (F.state folder.old) (F.state folder.new) }
+{
+    let choice = choose(rt, alloc, folder, asked)?;
+    let count = count_taken(rt, alloc, folder, choice)?;
+    match asked.wanted.order {
+        None => Ok(count),
+        Some(order) => Ok(count.min(order.most)),
+    }
+}

@@ -1,0 +1,193 @@
+//! A walk over the boards of a level, by rank, that finds those that are wanted.
+
+ghost use Rattle.std.specs.Prelude.{◌≡◌, ◌<◌, ◌≤◌, ◌+◌, ◌%◌, ◌==◌, ◌&&◌, ℕ, [], if◌then◌else◌, List, IfOk};
+ghost use Rattle.awari_facts.specs.Numbers.{IsAt};
+ghost use Rattle.awari_facts.specs.Sources.{SaysBy, levels_of};
+ghost use Rattle.awari_folder.specs.State.{Unchanged};
+ghost use Rattle.awari_rank.specs.Rank.{size_of};
+ghost use Rattle.awari_table.specs.Images.{entry_of};
+ghost use Rattle.awari_table.specs.declared.TheConstants.{HIGHEST_LEVEL};
+ghost use Rattle.awari_table.specs.declared.images.Image.{Image};
+ghost use Rattle.awari_levels.specs.Listing.{farthest_of, key_if, passes};
+ghost use Rattle.awari_levels.specs.Segments.{HasKeys};
+ghost use Rattle.awari_levels.specs.Walks.{Steps, Walked};
+ghost use Rattle.awari_levels.specs.declared.wanted.Wanted.{Wanted as AWanted};
+
+use crate::segments::{Segment, key_in_segment, new_segment};
+use crate::wanted::{Wanted, key_of_board};
+use awari_facts::{Seen, Source, read_entry};
+use awari_folder::{Folder, FolderFault};
+use awari_places::Run;
+use awari_queries::{Draw, is_taken};
+use awari_table::Entry;
+use std::alloc::Global;
+use std::thread::Threads;
+
+/// How many boards threads look at together: some milliseconds of work for each thread, so that starting it
+/// costs little.
+const SEGMENT: u32 = 131072;
+
+/// A level that is asked about, and which of its boards are wanted.
+#[derive(Clone, Copy)]
+pub(crate) struct Asked<'a> {
+    /// Where the levels are.
+    pub(crate) source: Source<'a>,
+    /// The level.
+    pub(crate) level: u8,
+    /// Which of its boards are wanted.
+    pub(crate) wanted: &'a Wanted,
+}
+
+/// What is known of a level before its boards are listed.
+#[derive(Clone, Copy)]
+pub(crate) struct Choice<'a> {
+    /// What is asked.
+    pub(crate) asked: Asked<'a>,
+    /// The greatest distance of those that have what is wanted of each, if the farthest are asked for.
+    pub(crate) farthest: u32,
+    /// How those that are due are drawn, if a sample is wanted.
+    pub(crate) sample: Option<Draw>,
+}
+
+/// A walk over the boards of a level, and what came of those before.
+#[derive(Drop)]
+pub(crate) struct Walk {
+    /// Boards that were looked at ahead.
+    pub(crate) segment: Segment,
+    /// Entries that were read ahead.
+    run: Run,
+    /// How many boards have all that is wanted of each.
+    passed: u32,
+    /// How the next ones are drawn, if a sample is wanted.
+    sample: Option<Draw>,
+}
+
+/// A board that is wanted.
+#[derive(Clone, Copy)]
+pub(crate) struct Taken {
+    /// Its entry.
+    pub(crate) entry: Entry,
+    /// What it is sorted by.
+    pub(crate) key: i64,
+}
+
+/// A walk that is at its begin. It takes memory for as many boards as threads look at together.
+pub(crate) fn new_walk(
+    alloc: Global,
+    asked: Asked<'_>,
+    sample: Option<Draw>,
+) -> Result<Walk, FolderFault>
+    ensures walked { (wanted : AWanted) (images : List Image) (level : ℕ) → IfOk result (Walked wanted images level 0 sample []) }
+    ensures none { IfOk result (λ walk. walk.passed ≡ 0) }
+{
+    Ok(Walk {
+        segment: segment_for(alloc, asked)?,
+        run: Run::new(),
+        passed: 0,
+        sample,
+    })
+}
+
+/// A segment for what is asked: with files, no board is looked at ahead.
+pub(crate) fn segment_for(alloc: Global, asked: Asked<'_>) -> Result<Segment, FolderFault>
+    ensures { (wanted : AWanted) (images : List Image) (level : ℕ) → IfOk result (HasKeys wanted images level) }
+{
+    let boards = match asked.source {
+        Source::Shelf(_) => SEGMENT,
+        Source::Files(_) => 0,
+    };
+    match new_segment(alloc, boards) {
+        Ok(segment) => Ok(segment),
+        Err(_) => Err(FolderFault::Memory),
+    }
+}
+
+/// What a board is sorted by, if it has all that is wanted of it. By verified levels threads look at it and at
+/// those behind it. Conditions: the level is there, and has that many boards.
+pub(crate) fn look<R: Threads + Sync, F: Folder>(
+    rt: &R,
+    folder: &mut F,
+    asked: Asked<'_>,
+    segment: &mut Segment,
+    seen: &Seen,
+) -> Result<Option<i64>, FolderFault>
+    requires level { seen.now.level < levels_of asked.source }
+    requires few { levels_of asked.source ≤ HIGHEST_LEVEL + 1 }
+    requires rank { seen.now.rank < size_of seen.now.level }
+    ensures key { (images : List Image) → SaysBy asked.entry.source (F.state folder.old).stands images
+        → HasKeys asked.entry.wanted.now images seen.now.level segment.old → (board : List ℕ) → IsAt images seen.now.level seen.now.rank board seen.now.entry
+        → IfOk result (λ key. key ≡ key_if asked.entry.wanted.now images board) }
+    ensures keys { (images : List Image) → SaysBy asked.entry.source (F.state folder.old).stands images
+        → HasKeys asked.entry.wanted.now images seen.now.level segment.old → HasKeys asked.entry.wanted.now images seen.now.level segment.new }
+    ensures same { Unchanged (F.state folder.old) (F.state folder.new) }
+{
+    match asked.source {
+        Source::Shelf(shelf) => Ok(key_in_segment(rt, shelf, asked.wanted, seen, segment)),
+        Source::Files(_) => key_of_board(asked.source, folder, asked.wanted, seen),
+    }
+}
+
+/// Whether a board is due, of which it is known whether it passes. This many passed before it, and it is
+/// counted if it does.
+fn is_due(passes: bool, every: u32, passed: &mut u32) -> bool
+    requires every { 0 < every }
+    requires fits { passed.old < 4294967295 }
+    ensures passed { passed.new ≡ passed.old + (if passes then 1 else 0) }
+    ensures due { result ≡ (passes && (passed.new % every == 0)) }
+{
+    if !passes {
+        return false;
+    }
+    *passed += 1;
+    *passed % every == 0
+}
+
+/// Whether a board passes of which it is known whether it has all that is wanted of each, where the farthest
+/// have this distance.
+#[tactic(auto, unfolding(crate::specs::Listing::key_if, crate::specs::Listing::passes))]
+fn passes(wanted: &Wanted, farthest: u32, key: Option<i64>, entry: Entry) -> bool
+    ensures { (images : List Image) (board : List ℕ) → key ≡ key_if wanted.now images board → entry ≡ entry_of images board → result ≡ passes wanted.now farthest images board }
+{
+    key.is_some() && (!wanted.farthest || entry.dist == farthest)
+}
+
+/// The board of the next rank, if it is wanted, where the farthest have this distance. Conditions: the level
+/// is there, and has that many boards; not each 0th board is wanted; no more boards passed than there were.
+pub(crate) fn step<R: Threads + Sync, F: Folder>(
+    rt: &R,
+    folder: &mut F,
+    choice: Choice<'_>,
+    walk: &mut Walk,
+    rank: u32,
+) -> Result<Option<Taken>, FolderFault>
+    requires level { choice.asked.level < levels_of choice.asked.source }
+    requires few { levels_of choice.asked.source ≤ HIGHEST_LEVEL + 1 }
+    requires rank { rank < size_of choice.asked.level }
+    requires every { (0 < choice.asked.wanted.now.every) × (walk.old.passed ≤ rank) × (rank < 4294967295) }
+    ensures walked { IfOk result (λ _. walk.new.passed ≤ rank + 1) }
+    ensures stepped { (images : List Image) → SaysBy choice.entry.asked.source (F.state folder.old).stands images → choice.entry.farthest ≡ farthest_of choice.entry.asked.wanted.now images choice.entry.asked.level → (boards : List (List ℕ))
+        → Walked choice.entry.asked.wanted.now images choice.entry.asked.level rank choice.entry.sample boards walk.old
+        → IfOk result (λ taken. Steps choice.entry.asked.wanted.now images choice.entry.asked.level rank choice.entry.sample boards taken walk.new) }
+    ensures same { Unchanged (F.state folder.old) (F.state folder.new) }
+{
+    let Asked {
+        source,
+        level,
+        wanted,
+    } = choice.asked;
+    let entry = read_entry(source, folder, &mut walk.run, level, rank)?;
+    let seen = Seen { level, rank, entry };
+    let key = look(rt, folder, choice.asked, &mut walk.segment, &seen)?;
+    let passes = passes(wanted, choice.farthest, key, entry);
+    if !is_due(passes, wanted.every, &mut walk.passed) {
+        return Ok(None);
+    }
+    if !is_taken(&mut walk.sample) {
+        return Ok(None);
+    }
+    match key {
+        Some(key) => Ok(Some(Taken { entry, key })),
+        // A board that is due has a key.
+        None => Ok(None),
+    }
+}

@@ -1,0 +1,306 @@
+//! Which boards of a level are wanted.
+
+ghost use Rattle.std.specs.Prelude.{◌≡◌, ◌<◌, ◌≤◌, ◌+◌, true, false, ℕ, List, Option, IfOk, IfSome, IsNone, length, sum, ℤ};
+ghost use Rattle.awari_facts.specs.Facts.{gains_in};
+ghost use Rattle.awari_facts.specs.Numbers.{IsAt};
+ghost use Rattle.awari_facts.specs.Sources.{SaysBy, levels_of};
+ghost use Rattle.awari_facts.specs.declared.looks.Gained.{Gained as AGained};
+ghost use Rattle.awari_folder.specs.State.{Unchanged};
+ghost use Rattle.awari_rank.specs.Rank.{size_of};
+ghost use Rattle.awari_table.specs.Images.{entry_of};
+ghost use Rattle.awari_table.specs.declared.TheConstants.{HIGHEST_LEVEL};
+ghost use Rattle.awari_table.specs.declared.images.Entry.{Entry as AnEntry};
+ghost use Rattle.awari_table.specs.declared.images.Image.{Image};
+ghost use Rattle.awari_levels.specs.Listing.{fits, is_of_kind, is_weighed, is_within, key_if, suits, weighs};
+
+use awari_facts::{
+    Gains, Seen, Source, entry_at, gains_of, gains_on, legal_moves, moves_gaining, number_of,
+    number_on, own_stones, plan_captures, trap_by, waits,
+};
+use awari_folder::{Folder, FolderFault};
+use awari_packed::PackedBoard;
+use awari_queries::{Form, Order, Spans, has, is_in, key_of};
+use awari_table::{Entry, Shelf};
+
+/// Which boards of a level are wanted, and how.
+#[derive(Clone, Copy, Debug, PartialEq, Eq)]
+pub struct Wanted {
+    /// Those whose numbers are in these.
+    pub spans: Spans,
+    /// Those that are worth less than if the opponent had to move.
+    pub waits: bool,
+    /// Those where the play has ended.
+    pub ended: bool,
+    /// Those where it has not.
+    pub running: bool,
+    /// Those of the greatest distance that is left.
+    pub farthest: bool,
+    /// One in this many of these.
+    pub every: u32,
+    /// This many of them, drawn by chance; 0 is all.
+    pub random: u32,
+    /// The number that decides which are drawn.
+    pub seed: u32,
+    /// The first of these by a number, if not all of them by rank.
+    pub order: Option<Order>,
+    /// Whether each line has the number of legal moves.
+    pub with_moves: bool,
+    /// Whether each line has the number of those that keep the value.
+    pub with_keep: bool,
+    /// How many there are, and not the boards.
+    pub count: bool,
+    /// How they are printed.
+    pub form: Form,
+}
+
+/// Whether value, distance and plan are in the spans.
+#[tactic(auto, unfolding(crate::specs::Listing::fits))]
+fn fits(spans: &Spans, entry: Entry) -> bool
+    ensures { result ≡ fits spans.now entry }
+{
+    is_in(spans.value, i64::from(entry.value))
+        && is_in(spans.distance, i64::from(entry.dist))
+        && has(spans.plan, entry.plan)
+}
+
+/// Whether the rules say of the board what is wanted.
+#[tactic(auto, unfolding(crate::specs::Listing::suits))]
+fn suits(wanted: &Wanted, board: &PackedBoard, entry: Entry) -> bool
+    ensures { result ≡ suits wanted.now board.now entry }
+{
+    let moves = legal_moves(board);
+    if !is_in(wanted.spans.side, i64::from(own_stones(board))) {
+        return false;
+    }
+    if !is_in(wanted.spans.moves, i64::from(moves)) {
+        return false;
+    }
+    has(wanted.spans.captures, plan_captures(board, entry.plan)) && is_of_kind(wanted, moves)
+}
+
+/// Whether a board with this many legal moves has ended or has not, if that is wanted.
+fn is_of_kind(wanted: &Wanted, moves: u8) -> bool
+    ensures { result ≡ is_of_kind wanted.now moves }
+{
+    if wanted.ended && 0 < moves {
+        return false;
+    }
+    !(wanted.running && moves == 0)
+}
+
+/// Whether something is wanted that the rules say of a board.
+#[tactic(auto, unfolding(crate::specs::Listing::suits))]
+fn asks_rules(wanted: &Wanted) -> bool
+    ensures { result ≡ false → (board : List ℕ) (e : AnEntry) → suits wanted.now board e ≡ true }
+{
+    let Spans {
+        captures,
+        side,
+        moves,
+        ..
+    } = wanted.spans;
+    let of_rules = side.is_some() || moves.is_some() || captures.is_some();
+    of_rules || wanted.ended || wanted.running
+}
+
+/// Whether something is wanted of what the moves of a board gain.
+fn asks_moves(spans: &Spans) -> bool
+    ensures { result ≡ false → (moves : List (Option AGained)) (value : ℤ) → weighs spans.now moves value ≡ true }
+{
+    spans.keep.is_some() || spans.trap.is_some()
+}
+
+/// Whether the rules say of the board of a rank what is wanted. Condition: the level has that many boards.
+fn suits_rules(wanted: &Wanted, seen: &Seen) -> bool
+    requires level { seen.now.level ≤ HIGHEST_LEVEL }
+    requires rank { seen.now.rank < size_of seen.now.level }
+    ensures { (images : List Image) (board : List ℕ) → IsAt images seen.now.level seen.now.rank board seen.now.entry → result ≡ suits wanted.now board seen.now.entry }
+{
+    if !asks_rules(wanted) {
+        return true;
+    }
+    suits(wanted, &seen.board(), seen.entry)
+}
+
+/// Whether the board of a rank has all that is wanted of each, if that is known without a look at other
+/// boards. Condition: the level has that many boards.
+fn settled(wanted: &Wanted, seen: &Seen) -> Option<bool>
+    requires level { seen.now.level ≤ HIGHEST_LEVEL }
+    requires rank { seen.now.rank < size_of seen.now.level }
+    ensures some { (images : List Image) (board : List ℕ) → IsAt images seen.now.level seen.now.rank board seen.now.entry → IfSome result (λ b. b ≡ is_within wanted.now images board) }
+    ensures none { (images : List Image) (board : List ℕ) → IsAt images seen.now.level seen.now.rank board seen.now.entry → IsNone result
+        → is_weighed wanted.now images board ≡ is_within wanted.now images board }
+{
+    if !fits(&wanted.spans, seen.entry) {
+        return Some(false);
+    }
+    if !suits_rules(wanted, seen) {
+        return Some(false);
+    }
+    if wanted.waits || asks_moves(&wanted.spans) {
+        return None;
+    }
+    Some(true)
+}
+
+/// Whether what these moves of a board of this value gain is as it is wanted.
+fn weighs(spans: &Spans, moves: &Gains, value: i8) -> bool
+    ensures { result ≡ weighs spans.now moves.now value }
+{
+    let keeping = moves_gaining(moves, value);
+    let lost = trap_by(moves, value);
+    is_in(spans.keep, i64::from(keeping)) && is_in(spans.trap, lost)
+}
+
+/// Whether what the moves of a board of this value gain by verified levels is as it is wanted. Condition: its
+/// level is there.
+fn weighs_on(shelf: &Shelf, spans: &Spans, board: &PackedBoard, value: i8) -> bool
+    requires { sum board.now < length shelf.now }
+    ensures { result ≡ weighs spans.now (gains_in shelf.now board.now) value }
+{
+    if !asks_moves(spans) {
+        return true;
+    }
+    weighs(spans, &gains_on(shelf, board), value)
+}
+
+/// Whether verified levels say of other boards what is wanted of this one, of this value. Condition: its level
+/// is there.
+fn is_weighed_on(shelf: &Shelf, wanted: &Wanted, board: &PackedBoard, value: i8) -> bool
+    requires { sum board.now < length shelf.now }
+    ensures { value ≡ (entry_of shelf.now board.now).value → result ≡ is_weighed wanted.now shelf.now board.now }
+{
+    if !weighs_on(shelf, &wanted.spans, board, value) {
+        return false;
+    }
+    if !wanted.waits {
+        return true;
+    }
+    waits(value, shelf.value_below(&board.turned(), board.stones()))
+}
+
+/// Whether what the moves of a board of this value gain is as it is wanted. Condition: its level is there.
+fn weighs_in<F: Folder>(
+    source: Source<'_>,
+    folder: &mut F,
+    spans: &Spans,
+    board: &PackedBoard,
+    value: i8,
+) -> Result<bool, FolderFault>
+    requires known { sum board.now < levels_of source }
+    requires few { levels_of source ≤ HIGHEST_LEVEL + 1 }
+    ensures weighed { (images : List Image) → SaysBy source.entry (F.state folder.old).stands images → IfOk result (λ b. b ≡ weighs spans.now (gains_in images board.now) value) }
+    ensures same { Unchanged (F.state folder.old) (F.state folder.new) }
+{
+    if !asks_moves(spans) {
+        return Ok(true);
+    }
+    let moves = gains_of(source, folder, board)?;
+    Ok(weighs(spans, &moves, value))
+}
+
+/// Whether the levels say of other boards what is wanted of this one, of this value. Condition: its level is
+/// there.
+fn is_weighed<F: Folder>(
+    source: Source<'_>,
+    folder: &mut F,
+    wanted: &Wanted,
+    board: &PackedBoard,
+    value: i8,
+) -> Result<bool, FolderFault>
+    requires known { sum board.now < levels_of source }
+    requires few { levels_of source ≤ HIGHEST_LEVEL + 1 }
+    ensures weighed { (images : List Image) → SaysBy source.entry (F.state folder.old).stands images → value ≡ (entry_of images board.now).value
+        → IfOk result (λ b. b ≡ is_weighed wanted.now images board.now) }
+    ensures same { Unchanged (F.state folder.old) (F.state folder.new) }
+{
+    let weighs = weighs_in(source, folder, &wanted.spans, board, value)?;
+    if !weighs {
+        return Ok(false);
+    }
+    if !wanted.waits {
+        return Ok(true);
+    }
+    let other = entry_at(source, folder, &board.turned())?;
+    Ok(waits(value, other.value))
+}
+
+/// Whether by verified levels the board of a rank has all that is wanted of each. Condition: the level is
+/// there, and has that many boards.
+fn is_within_on(shelf: &Shelf, wanted: &Wanted, seen: &Seen) -> bool
+    requires level { seen.now.level < length shelf.now }
+    requires rank { seen.now.rank < size_of seen.now.level }
+    ensures { (board : List ℕ) → IsAt shelf.now seen.now.level seen.now.rank board seen.now.entry → result ≡ is_within wanted.now shelf.now board }
+{
+    // For the proof: there are at most 25 levels.
+    let _levels = shelf.levels();
+    match settled(wanted, seen) {
+        Some(within) => within,
+        None => is_weighed_on(shelf, wanted, &seen.board(), seen.entry.value),
+    }
+}
+
+/// Whether the board of a rank has all that is wanted of each. Condition: the level is there, and has this many
+/// boards.
+fn is_within<F: Folder>(
+    source: Source<'_>,
+    folder: &mut F,
+    wanted: &Wanted,
+    seen: &Seen,
+) -> Result<bool, FolderFault>
+    requires level { seen.now.level < levels_of source }
+    requires few { levels_of source ≤ HIGHEST_LEVEL + 1 }
+    requires rank { seen.now.rank < size_of seen.now.level }
+    ensures within { (images : List Image) (board : List ℕ) → SaysBy source.entry (F.state folder.old).stands images → IsAt images seen.now.level seen.now.rank board seen.now.entry
+        → IfOk result (λ b. b ≡ is_within wanted.now images board) }
+    ensures same { Unchanged (F.state folder.old) (F.state folder.new) }
+{
+    match settled(wanted, seen) {
+        Some(within) => Ok(within),
+        None => is_weighed(source, folder, wanted, &seen.board(), seen.entry.value),
+    }
+}
+
+/// What the board of a rank is sorted by, if by verified levels it has all that is wanted of each. Condition:
+/// the level is there, and has that many boards.
+pub(crate) fn key_on(shelf: &Shelf, wanted: &Wanted, seen: &Seen) -> Option<i64>
+    requires level { seen.now.level < length shelf.now }
+    requires rank { seen.now.rank < size_of seen.now.level }
+    ensures { (board : List ℕ) → IsAt shelf.now seen.now.level seen.now.rank board seen.now.entry → result ≡ key_if wanted.now shelf.now board }
+{
+    if !is_within_on(shelf, wanted, seen) {
+        return None;
+    }
+    match wanted.order {
+        None => Some(0),
+        Some(order) => Some(key_of(order, number_on(shelf, order.by, seen))),
+    }
+}
+
+/// What the board of a rank is sorted by, if it has all that is wanted of each. Condition: the level is
+/// there, and has that many boards.
+pub(crate) fn key_of_board<F: Folder>(
+    source: Source<'_>,
+    folder: &mut F,
+    wanted: &Wanted,
+    seen: &Seen,
+) -> Result<Option<i64>, FolderFault>
+    requires level { seen.now.level < levels_of source }
+    requires few { levels_of source ≤ HIGHEST_LEVEL + 1 }
+    requires rank { seen.now.rank < size_of seen.now.level }
+    ensures key { (images : List Image) (board : List ℕ) → SaysBy source.entry (F.state folder.old).stands images → IsAt images seen.now.level seen.now.rank board seen.now.entry
+        → IfOk result (λ key. key ≡ key_if wanted.now images board) }
+    ensures same { Unchanged (F.state folder.old) (F.state folder.new) }
+{
+    let within = is_within(source, folder, wanted, seen)?;
+    if !within {
+        return Ok(None);
+    }
+    match wanted.order {
+        None => Ok(Some(0)),
+        Some(order) => {
+            let number = number_of(source, folder, order.by, seen)?;
+            Ok(Some(key_of(order, number)))
+        }
+    }
+}
