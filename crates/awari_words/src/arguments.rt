@@ -17,13 +17,14 @@ const MOST_THREADS: u64 = 64;
 /// What stands above the options of owners.
 const STUDY: &str = "To study the method; it is slower";
 
-pub(crate) fn pit<'a>(alloc: Global) -> Arg<'a>
-    ensures { IsArg result (number (codes "PIT") (Signed (pos 0) (pos 255))) }
+/// A word of this name that spells a number below 2^8.
+pub(crate) fn byte<'a>(alloc: Global, name: &'a str, help: &'a str) -> Arg<'a>
+    ensures { IsArg result (number name.entry.now (Signed (pos 0) (pos 255))) }
 {
-    Arg::new(alloc, "PIT")
+    Arg::new(alloc, name)
         .required(true)
         .value_parser(value_parser!(u8))
-        .help("The pit to play, 0 to 255")
+        .help(help)
 }
 
 pub(crate) fn limit<'a>(alloc: Global) -> Arg<'a>
@@ -68,15 +69,6 @@ pub(crate) fn named<'a>(word: Arg<'a>) -> Arg<'a>
     ensures { result ≡ record word.entry { value_parser = Some NonEmptyString } }
 {
     word.value_parser(ValueParser::NonEmptyString)
-}
-
-pub(crate) fn progress<'a>(alloc: Global) -> Arg<'a>
-    ensures { IsArg result (flag (codes "progress")) }
-{
-    Arg::new(alloc, "progress")
-        .long("progress")
-        .action(ArgAction::SetTrue)
-        .help("Print on the error stream how far it is")
 }
 
 pub(crate) fn threads<'a>(alloc: Global) -> Arg<'a>
@@ -126,15 +118,6 @@ pub(crate) fn sweeps<'a>(alloc: Global) -> Arg<'a>
         .help("The most sweeps in a round, 1 to 1000")
 }
 
-pub(crate) fn with_boards<'a>(alloc: Global) -> Arg<'a>
-    ensures { IsArg result (flag (codes "boards")) }
-{
-    Arg::new(alloc, "boards")
-        .long("boards")
-        .action(ArgAction::SetTrue)
-        .help("Put each board before its line, and leave out the headers")
-}
-
 pub(crate) fn level<'a>(alloc: Global) -> Arg<'a>
     ensures { IsArg result level }
 {
@@ -161,51 +144,6 @@ pub(crate) fn to<'a>(alloc: Global) -> Arg<'a>
     named(to)
 }
 
-pub(crate) fn replies<'a>(alloc: Global) -> Arg<'a>
-    ensures { IsArg result (flag (codes "replies")) }
-{
-    Arg::new(alloc, "replies")
-        .long("replies")
-        .action(ArgAction::SetTrue)
-        .help("Add the replies that each move leaves")
-}
-
-pub(crate) fn json<'a>(alloc: Global) -> Arg<'a>
-    ensures { IsArg result json }
-{
-    Arg::new(alloc, "json")
-        .long("json")
-        .action(ArgAction::SetTrue)
-        .help("Print JSON, an object a line")
-}
-
-pub(crate) fn csv<'a>(alloc: Global) -> Arg<'a>
-    ensures { IsArg result csv }
-{
-    Arg::new(alloc, "csv")
-        .long("csv")
-        .action(ArgAction::SetTrue)
-        .help("Print CSV, below the names of its columns")
-}
-
-pub(crate) fn longest<'a>(alloc: Global) -> Arg<'a>
-    ensures { IsArg result (flag (codes "longest")) }
-{
-    Arg::new(alloc, "longest")
-        .long("longest")
-        .action(ArgAction::SetTrue)
-        .help("Let the losing side hold out as long as it can")
-}
-
-pub(crate) fn each_ply<'a>(alloc: Global) -> Arg<'a>
-    ensures { IsArg result (flag (codes "plies")) }
-{
-    Arg::new(alloc, "plies")
-        .long("plies")
-        .action(ArgAction::SetTrue)
-        .help("Print a line for each ply")
-}
-
 pub(crate) fn served_top<'a>(alloc: Global) -> Arg<'a>
     ensures { IsArg result (number_or_0 (codes "TOP") levels) }
 {
@@ -223,15 +161,6 @@ pub(crate) fn served_owners<'a>(alloc: Global) -> Arg<'a>
         .help("Owners of a level, 0 to 16; 0 for all threads together")
 }
 
-pub(crate) fn ranked_level<'a>(alloc: Global) -> Arg<'a>
-    ensures { IsArg result (number (codes "LEVEL") (Signed (pos 0) (pos 255))) }
-{
-    Arg::new(alloc, "LEVEL")
-        .required(true)
-        .value_parser(value_parser!(u8))
-        .help("The stones on the board, 0 to 24")
-}
-
 pub(crate) fn rank<'a>(alloc: Global) -> Arg<'a>
     ensures { IsArg result (number (codes "RANK") (Signed (pos 0) (pos 4294967295))) }
 {
@@ -239,15 +168,6 @@ pub(crate) fn rank<'a>(alloc: Global) -> Arg<'a>
         .required(true)
         .value_parser(value_parser!(u32))
         .help("The number of the board, from 0 on")
-}
-
-pub(crate) fn plies<'a>(alloc: Global) -> Arg<'a>
-    ensures { IsArg result (number (codes "PLIES") (Signed (pos 0) (pos 255))) }
-{
-    Arg::new(alloc, "PLIES")
-        .required(true)
-        .value_parser(value_parser!(u8))
-        .help("The length of the plays, 0 to 255")
 }
 
 pub(crate) fn listed_level<'a>(alloc: Global) -> Arg<'a>
@@ -259,14 +179,21 @@ pub(crate) fn listed_level<'a>(alloc: Global) -> Arg<'a>
         .help("The stones on each board, 0 to 24")
 }
 
-/// The option `--name A..B`.
-pub(crate) fn span<'a>(alloc: Global, name: &'a str, help: &'a str) -> Arg<'a>
+/// The option `--name VALUE`.
+pub(crate) fn option<'a>(alloc: Global, name: &'a str, value: &'a str, help: &'a str) -> Arg<'a>
     ensures { IsArg result (option name.entry.now) }
 {
     Arg::new(alloc, name)
         .long(name)
-        .value_name("A..B")
+        .value_name(value)
         .help(help)
+}
+
+/// The option `--name A..B`.
+pub(crate) fn span<'a>(alloc: Global, name: &'a str, help: &'a str) -> Arg<'a>
+    ensures { IsArg result (option name.entry.now) }
+{
+    option(alloc, name, "A..B", help)
 }
 
 /// The flag `--name`.
@@ -279,6 +206,34 @@ pub(crate) fn flag<'a>(alloc: Global, name: &'a str, help: &'a str) -> Arg<'a>
         .help(help)
 }
 
+pub(crate) fn progress<'a>(alloc: Global) -> Arg<'a>
+    ensures { IsArg result (flag (codes "progress")) }
+{
+    flag(alloc, "progress", "Print on the error stream how far it is")
+}
+
+pub(crate) fn json<'a>(alloc: Global) -> Arg<'a>
+    ensures { IsArg result json }
+{
+    flag(alloc, "json", "Print JSON, an object a line")
+}
+
+pub(crate) fn csv<'a>(alloc: Global) -> Arg<'a>
+    ensures { IsArg result csv }
+{
+    flag(alloc, "csv", "Print CSV, below the names of its columns")
+}
+
+pub(crate) fn unverified<'a>(alloc: Global) -> Arg<'a>
+    ensures { IsArg result unverified }
+{
+    flag(
+        alloc,
+        "unverified",
+        "Answer at once by what files say, and verify nothing",
+    )
+}
+
 /// The option `--name N`, which is 0 where it isn't given.
 pub(crate) fn number_or_none<'a>(alloc: Global, name: &'a str, help: &'a str) -> Arg<'a>
     ensures { IsArg result (number_option name.entry.now (Unsigned 0 4294967295) (codes "0")) }
@@ -289,24 +244,6 @@ pub(crate) fn number_or_none<'a>(alloc: Global, name: &'a str, help: &'a str) ->
         .value_parser(ValueParser::unsigned(0, u64::from(u32::MAX)))
         .default_value("0")
         .help(help)
-}
-
-pub(crate) fn sort<'a>(alloc: Global) -> Arg<'a>
-    ensures { IsArg result (option (codes "sort")) }
-{
-    Arg::new(alloc, "sort")
-        .long("sort")
-        .value_name("COLUMN")
-        .help("Sort by it; -COLUMN for the greatest first")
-}
-
-pub(crate) fn pair<'a>(alloc: Global) -> Arg<'a>
-    ensures { IsArg result (option (codes "by")) }
-{
-    Arg::new(alloc, "by")
-        .long("by")
-        .value_name("COLUMN,COLUMN")
-        .help("Count the boards of each pair of numbers")
 }
 
 pub(crate) fn every<'a>(alloc: Global) -> Arg<'a>
@@ -337,15 +274,6 @@ pub(crate) fn board<'a>(alloc: Global) -> Arg<'a>
         .help("The stones in the pits, as 0,0,0,0,0,1/1,0,0,0,0,0")
 }
 
-pub(crate) fn estimate<'a>(alloc: Global) -> Arg<'a>
-    ensures { IsArg result (flag (codes "estimate")) }
-{
-    Arg::new(alloc, "estimate")
-        .long("estimate")
-        .action(ArgAction::SetTrue)
-        .help("Build nothing, and tell what it would take")
-}
-
 pub(crate) fn levels_wish<'a>(alloc: Global) -> Arg<'a>
     ensures { IsArg result levels_wish }
 {
@@ -354,22 +282,4 @@ pub(crate) fn levels_wish<'a>(alloc: Global) -> Arg<'a>
         .value_name("TOP")
         .value_parser(ValueParser::unsigned(0, u64::from(HIGHEST_LEVEL)))
         .help("Want just levels 0 to TOP: none missing, and none above")
-}
-
-pub(crate) fn digest<'a>(alloc: Global) -> Arg<'a>
-    ensures { IsArg result (option (codes "digest")) }
-{
-    Arg::new(alloc, "digest")
-        .long("digest")
-        .value_name("HEX")
-        .help("Want this digest of the last file, of 64 digits")
-}
-
-pub(crate) fn unverified<'a>(alloc: Global) -> Arg<'a>
-    ensures { IsArg result unverified }
-{
-    Arg::new(alloc, "unverified")
-        .long("unverified")
-        .action(ArgAction::SetTrue)
-        .help("Answer at once by what files say, and verify nothing")
 }

@@ -7,10 +7,9 @@ ghost use Rattle.awari_words.specs.Commands.{added_numbers, ask_command, awari, 
 ghost use Rattle.awari_words.specs.Making.{IsArg, IsCommand, MakesApp, MakesCommand, with_subcommands, with_words};
 
 use crate::arguments::{
-    board, csv, digest, each_ply, estimate, every, flag, folder, from, json, level, levels_wish,
-    limit, listed_level, longest, moves, number_or_none, owners, pair, pit, plies, progress, rank,
-    ranked_level, replies, room, served_owners, served_top, sort, span, start_folder, sweeps,
-    threads, to, top, unverified, with_boards,
+    board, byte, csv, every, flag, folder, from, json, level, levels_wish, limit, listed_level,
+    moves, number_or_none, option, owners, progress, rank, room, served_owners, served_top, span,
+    start_folder, sweeps, threads, to, top, unverified,
 };
 use crate::helps::{
     ASK_HELP, AWARI_HELP, BOARD_HELP, BOARDS_HELP, BUILD_HELP, CHECK_HELP, COUNTS_HELP, JUDGE_HELP,
@@ -136,7 +135,7 @@ fn move_command<'a>(alloc: Global) -> Result<Command<'a>, AllocError>
         MOVE_HELP,
     );
     let command = with_word(command, board(alloc));
-    with_word(command, pit(alloc))
+    with_word(command, byte(alloc, "PIT", "The pit to play, 0 to 255"))
 }
 
 fn judge_command<'a>(alloc: Global) -> Result<Command<'a>, AllocError>
@@ -165,7 +164,12 @@ fn build_command<'a>(alloc: Global) -> Result<Command<'a>, AllocError>
     let command = with_word(command, top(alloc));
     let command = with_word(command, start_folder(alloc));
     let command = with_word(command, progress(alloc));
-    let command = with_word(command, estimate(alloc));
+    let estimate = flag(
+        alloc,
+        "estimate",
+        "Build nothing, and tell what it would take",
+    );
+    let command = with_word(command, estimate);
     let command = with_word(command, threads(alloc));
     with_pace(alloc, command)
 }
@@ -193,7 +197,13 @@ fn verify_command<'a>(alloc: Global) -> Result<Command<'a>, AllocError>
     );
     let command = with_word(command, folder(alloc));
     let command = with_word(command, levels_wish(alloc));
-    let command = with_word(command, digest(alloc));
+    let digest = option(
+        alloc,
+        "digest",
+        "HEX",
+        "Want this digest of the last file, of 64 digits",
+    );
+    let command = with_word(command, digest);
     with_word(command, progress(alloc))
 }
 
@@ -208,7 +218,12 @@ fn text_command<'a>(alloc: Global) -> Result<Command<'a>, AllocError>
     );
     let command = with_word(command, folder(alloc));
     let command = with_word(command, level(alloc));
-    with_word(command, with_boards(alloc))
+    let boards = flag(
+        alloc,
+        "boards",
+        "Put each board before its line, and leave out the headers",
+    );
+    with_word(command, boards)
 }
 
 fn migrate_command<'a>(alloc: Global) -> Result<Command<'a>, AllocError>
@@ -248,7 +263,8 @@ fn moves_command<'a>(alloc: Global) -> Result<Command<'a>, AllocError>
         MOVES_HELP,
     );
     let command = with_board(alloc, command);
-    let command = with_word(command, replies(alloc));
+    let replies = flag(alloc, "replies", "Add the replies that each move leaves");
+    let command = with_word(command, replies);
     let command = with_word(command, json(alloc));
     with_word(command, unverified(alloc))
 }
@@ -263,8 +279,14 @@ fn line_command<'a>(alloc: Global) -> Result<Command<'a>, AllocError>
         LINE_HELP,
     );
     let command = with_board(alloc, command);
-    let command = with_word(command, longest(alloc));
-    let command = with_word(command, each_ply(alloc));
+    let longest = flag(
+        alloc,
+        "longest",
+        "Let the losing side hold out as long as it can",
+    );
+    let command = with_word(command, longest);
+    let plies = flag(alloc, "plies", "Print a line for each ply");
+    let command = with_word(command, plies);
     let command = with_word(command, json(alloc));
     with_word(command, unverified(alloc))
 }
@@ -316,7 +338,8 @@ fn board_command<'a>(alloc: Global) -> Result<Command<'a>, AllocError>
         "Prints the board of this rank in a level",
         BOARD_HELP,
     );
-    let command = with_word(command, ranked_level(alloc));
+    let level = byte(alloc, "LEVEL", "The stones on the board, 0 to 24");
+    let command = with_word(command, level);
     with_word(command, rank(alloc))
 }
 
@@ -330,7 +353,10 @@ fn plays_command<'a>(alloc: Global) -> Result<Command<'a>, AllocError>
         PLAYS_HELP,
     );
     let command = with_word(command, board(alloc));
-    with_word(command, plies(alloc))
+    with_word(
+        command,
+        byte(alloc, "PLIES", "The length of the plays, 0 to 255"),
+    )
 }
 
 fn counts_command<'a>(alloc: Global) -> Result<Command<'a>, AllocError>
@@ -344,7 +370,13 @@ fn counts_command<'a>(alloc: Global) -> Result<Command<'a>, AllocError>
     );
     let command = with_word(command, folder(alloc));
     let command = with_word(command, level(alloc));
-    let command = with_word(command, pair(alloc));
+    let by = option(
+        alloc,
+        "by",
+        "COLUMN,COLUMN",
+        "Count the boards of each pair of numbers",
+    );
+    let command = with_word(command, by);
     let command = with_word(command, csv(alloc));
     let command = with_word(command, json(alloc));
     with_word(command, unverified(alloc))
@@ -407,7 +439,13 @@ fn with_order<'a>(
 ) -> Result<Command<'a>, AllocError>
     ensures { (app : App) → MakesApp command.entry app → MakesApp result (with_words app order) }
 {
-    let command = with_word(command, sort(alloc));
+    let sort = option(
+        alloc,
+        "sort",
+        "COLUMN",
+        "Sort by it; -COLUMN for the greatest first",
+    );
+    let command = with_word(command, sort);
     let most = number_or_none(alloc, "most", "The first N of these; 0 is all");
     with_word(command, most)
 }
