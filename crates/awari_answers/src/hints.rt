@@ -25,11 +25,7 @@ const LIMIT_PLACE: u64 = 16;
 
 /// Writes the refusal of a folder, and gives the status 1. It says what the fault means, and which board
 /// of the levels breaks a rule, if that is the fault.
-pub fn refuse_folder<W: Write, E: Write>(
-    writer: &mut W,
-    errors: &mut E,
-    fault: FolderFault,
-) -> u8
+pub fn refuse_folder<W: Write, E: Write>(writer: &mut W, errors: &mut E, fault: FolderFault) -> u8
     ensures { result ≡ 1 }
 {
     print(writer, &Refused(fault));

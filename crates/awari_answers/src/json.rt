@@ -4,7 +4,7 @@ ghost use Rattle.std.specs.Prelude.{◌≡◌, ◌++◌, take};
 ghost use Rattle.awari_answers.specs.Refusals.{request_text};
 
 use crate::asked::NoAnswer;
-use crate::printing::print;
+use crate::printing::{print, refuse};
 use crate::remarks::{Explained, Printed, Replies};
 use arrayvec::ArrayVec;
 use awari_play::refusal_json;
@@ -16,10 +16,27 @@ const REQUEST_ROOM: usize = 200;
 /// More fields than a refusal has.
 const MOST_FIELDS: usize = 4;
 
+/// Writes a refusal, as JSON if `json` says so, and gives the status 1. The request, a command and a word, is
+/// told with JSON alone.
+pub fn refuse_as<W: Replies>(
+    writer: &mut W,
+    json: bool,
+    command: &str,
+    word: &str,
+    fault: NoAnswer,
+) -> u8
+    ensures { result ≡ 1 }
+{
+    if json {
+        return refuse_json(writer, command, word, fault);
+    }
+    refuse(writer, fault)
+}
+
 /// Writes a refusal as JSON in one line, with the request, which is a command and a word. An empty word is
 /// left out. A request is cut at 200 bytes. It gives the status 1, whether the writer took that or not. What
 /// the refusal means is told as a remark.
-pub fn refuse_json<W: Replies>(writer: &mut W, command: &str, word: &str, fault: NoAnswer) -> u8
+fn refuse_json<W: Replies>(writer: &mut W, command: &str, word: &str, fault: NoAnswer) -> u8
     ensures { result ≡ 1 }
 {
     let request = request_of(command.as_bytes(), word.as_bytes());

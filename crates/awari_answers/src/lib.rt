@@ -28,7 +28,7 @@ mod watching;
 
 pub use asked::{Asked, NoAnswer, ask_folder, folder_name_of};
 pub use hints::{refuse_folder, tell_answer};
-pub use json::refuse_json;
+pub use json::refuse_as;
 pub use levels::load_levels;
 pub use printing::{Refused, print, print_bytes, print_members, refuse, status_of};
 pub use remarks::{Answers, Explained, Replies};

@@ -1,11 +1,10 @@
 pub mod Asks
 pub mod Judgement
+pub mod Known
 pub mod Lines
 pub mod Memo
 pub mod Places
 pub mod Playing
 pub mod Plays
 pub mod Plies
-pub mod Unverified
-pub mod UnverifiedLines
 pub mod Worths

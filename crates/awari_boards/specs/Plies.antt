@@ -1,22 +1,10 @@
--- The command `line` with `--plies`: a line of play ply by ply, by a folder's levels.
-use Rattle.std.specs.Prelude.{ℕ, ◌<◌, Bool, false, List, [], ◌∷◌, ◌++◌, length, sum, take, codes, Option, Some, None}
+-- The command `line` with `--plies`: a line of play ply by ply.
+use Rattle.std.specs.Prelude.{ℕ, Bool, false, List, [], ◌∷◌, ◌++◌, take, codes, Option, Some, None}
 use Rattle.std.specs.List.{flat_map}
-use Rattle.std.specs.Io.KnownBytes.{Appends}
 use Rattle.awari_members.specs.Members.{Named, board, line_text, number, signed}
-use Rattle.awari_play.specs.Plies.{AreLinePlies}
 use Rattle.awari_play.specs.declared.plies.Ply.{Ply}
 use Rattle.awari_play.specs.declared.plies.Repeat.{Repeat}
 use Rattle.awari_queries.specs.Boards.{form_of}
-use Rattle.awari_table.specs.declared.images.Image.{Image}
-use Rattle.awari_answers.specs.Asked.{IsAsked}
-
--- By the levels in the folder these are the plies of a line from the board that the text spells, and where it comes back to a board.
-pub record ArePliesOf (longest : Bool) (stands : ℕ → Option (Option (List ℕ))) (text : List ℕ) (plies : List Ply) (repeat : Option Repeat) : Type 0 where
-  pub images : List Image
-  pub board : List ℕ
-  pub asked : IsAsked stands text images board
-  pub known : sum board < length images
-  pub told : AreLinePlies longest images board plies repeat
 
 -- a ply, and where the line comes back to a board
 abbrev pub ply_members : Ply → List Named
@@ -37,8 +25,3 @@ shown_plies json plies = flat_map (λ ply. shown_ply json ply ++ 10 ∷ []) plie
 abbrev pub shown_line : Bool → List Ply → Option Repeat → List ℕ
 shown_line json plies None = shown_plies json plies
 shown_line json plies (Some r) = shown_plies json (take r.again plies) ++ (shown_repeat json r ++ 10 ∷ [])
-
--- Where it is known what the writer holds, what was written are such plies, as JSON or as lines.
-abbrev pub PrintsPlies : (ℕ → Option (Option (List ℕ))) → Bool → Bool → List ℕ → Option (List ℕ) → Option (List ℕ) → Type 0
-PrintsPlies stands longest json text before after = (plies : List Ply) × (repeat : Option Repeat) × ArePliesOf longest stands text plies repeat
-    × Appends before after (shown_line json plies repeat)

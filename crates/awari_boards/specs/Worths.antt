@@ -1,20 +1,18 @@
 -- The command `moves`: what is printed of the legal moves of a board.
-use Rattle.std.specs.Prelude.{ℕ, Bool, List, Option}
+use Rattle.std.specs.Prelude.{ℕ, Bool, false, true, List, Option}
 use Rattle.std.specs.Io.KnownBytes.{Appends}
 use Rattle.awari_play.specs.Json.{weighed_json}
 use Rattle.awari_play.specs.Worths.{IsWeighed, weighed_text}
 use Rattle.awari_play.specs.declared.weighing.Weighed.{Weighed}
-use Rattle.awari_table.specs.declared.images.Image.{Image}
-use Rattle.awari_answers.specs.Asked.{IsAsked}
+use Rattle.awari_queries.specs.declared.questions.MovesQuery.{MovesQuery}
+use Rattle.awari_boards.specs.Known.{IsKnown}
 
--- the levels in the folder weigh this board, which the text spells, so; with the replies to each move if these are asked for
-abbrev pub IsWeighedIn : Bool → (ℕ → Option (Option (List ℕ))) → List ℕ → List ℕ → Weighed → Type 0
-IsWeighedIn replies stands text board w = (images : List Image) × IsAsked stands text images board × IsWeighed replies images board w
+-- the moves of a board, as JSON with the board, or as lines
+abbrev pub shown_worths : Bool → List ℕ → Weighed → List ℕ
+shown_worths true board w = weighed_json board w
+shown_worths false board w = weighed_text w
 
--- Where it is known what the writer holds, what was written are such moves, or the end.
-abbrev pub PrintsWorths : Bool → (ℕ → Option (Option (List ℕ))) → List ℕ → Option (List ℕ) → Option (List ℕ) → Type 0
-PrintsWorths replies stands text before after = (board : List ℕ) × (w : Weighed) × IsWeighedIn replies stands text board w × Appends before after (weighed_text w)
-
--- The same as JSON.
-abbrev pub PrintsWorthsJson : Bool → (ℕ → Option (Option (List ℕ))) → List ℕ → Option (List ℕ) → Option (List ℕ) → Type 0
-PrintsWorthsJson replies stands text before after = (board : List ℕ) × (w : Weighed) × IsWeighedIn replies stands text board w × Appends before after (weighed_json board w)
+-- Where it is known what the writer holds, what was written are the moves of the board that is asked for, or the end.
+abbrev pub PrintsWorths : MovesQuery → (ℕ → Option (Option (List ℕ))) → Option (List ℕ) → Option (List ℕ) → Type 0
+PrintsWorths q stands before after = (board : List ℕ) × (w : Weighed) × IsKnown q.unverified stands q.board.now board (λ images. IsWeighed q.replies images board w)
+    × Appends before after (shown_worths q.json board w)

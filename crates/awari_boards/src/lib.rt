@@ -10,7 +10,12 @@
 //!         board: &str,
 //!         output: &mut Vec<u8>,
 //!     ) -> u8 {
-//!         run_ask(rt, rt.alloc(), folder, board, output)
+//!         let query = AskQuery {
+//!             board,
+//!             json: false,
+//!             unverified: false,
+//!         };
+//!         run_ask(rt, rt.alloc(), folder, query, output)
 //!     }
 #![tactic(auto)]
 
@@ -19,24 +24,18 @@ mod counting;
 mod judgements;
 mod lines;
 mod memo;
+mod opening;
 mod places;
 mod playing;
 mod plies;
 mod sums;
-mod unverified;
-mod unverified_lines;
 mod worths;
 
-pub use asks::{run_ask, run_ask_json};
+pub use asks::run_ask;
 pub use counting::{plays_from, run_plays};
 pub use judgements::{Judgement, judge};
-pub use lines::{run_line, run_line_json, run_longest_json, run_longest_line};
+pub use lines::run_line;
 pub use places::{Place, board_at, place_of, run_board, run_rank};
 pub use playing::{Played, play_on};
-pub use plies::run_plies;
 pub use sums::PlayCounts;
-pub use unverified::{
-    run_ask_json_unverified, run_ask_unverified, run_moves_json_unverified, run_moves_unverified,
-};
-pub use unverified_lines::{run_line_unverified, run_plies_unverified};
-pub use worths::{run_moves, run_moves_json};
+pub use worths::run_moves;

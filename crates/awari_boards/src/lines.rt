@@ -1,18 +1,24 @@
 //! The command `line`: a play in which both sides follow the plans of the levels in a folder, or one
 //! side holds out.
 
-ghost use Rattle.std.specs.Prelude.{◌≡◌, ◌≤◌, ◌↔◌, ◌++◌, ◌∷◌, [], true, Err, IfOk};
+ghost use Rattle.std.specs.Prelude.{◌≡◌, ◌≤◌, ◌↔◌, ◌++◌, ◌∷◌, [], ℕ, List, true, false, Err, IfOk};
 ghost use Rattle.std.specs.Io.KnownBytes.{Appends};
 ghost use Rattle.awari_board.specs.BoardFault.{IsFaulty};
 ghost use Rattle.awari_board.specs.declared.text.BoardFault.{BoardFault};
 ghost use Rattle.awari_folder.specs.Contents.{Same};
-ghost use Rattle.awari_boards.specs.Lines.{IsLineOf, IsLongestLineOf, PrintsLine, PrintsLineJson, PrintsLongestJson, PrintsLongestLine, line_json, longest_json};
 ghost use Rattle.awari_answers.specs.declared.asked.NoAnswer.TheVariants as no_answer;
+ghost use Rattle.awari_boards.specs.Known.{IsKnown};
+ghost use Rattle.awari_boards.specs.Lines.{IsLineOf, PrintsLine, PrintsLineBy, SayLongest, line_json, longest_json, shown_best, shown_longest};
 
-use awari_answers::{Asked, NoAnswer, Replies, ask_folder, print, print_members, refuse, refuse_json, status_of};
+use crate::opening::{OpenedFor, open_level_of};
+use crate::plies::run_plies;
+use awari_answers::{
+    Asked, NoAnswer, Replies, ask_folder, print, print_members, refuse_as, status_of,
+};
 use awari_folder::Folder;
 use awari_members::Member;
 use awari_play::{Line, best_line, longest_line};
+use awari_queries::LineQuery;
 use awari_table::Entry;
 use std::alloc::Global;
 use std::fmt;
@@ -22,9 +28,9 @@ use std::thread::Threads;
 /// The entry of a board, and the line of play from it. It is printed as three lines, without the last
 /// line feed.
 #[derive(Drop)]
-pub(crate) struct ValuedLine {
-    pub(crate) entry: Entry,
-    pub(crate) line: Line,
+struct ValuedLine {
+    entry: Entry,
+    line: Line,
 }
 
 impl fmt::Display for ValuedLine {
@@ -44,9 +50,9 @@ impl fmt::Display for ValuedLine {
 /// The entry of a board, and the pits of the longest line of play from it. It is printed as three
 /// lines, without the last line feed.
 #[derive(Drop)]
-pub(crate) struct LongestLine {
-    pub(crate) entry: Entry,
-    pub(crate) moves: Vec<u8>,
+struct LongestLine {
+    entry: Entry,
+    moves: Vec<u8>,
 }
 
 impl fmt::Display for LongestLine {
@@ -83,14 +89,14 @@ impl fmt::Display for Moves<'_> {
 
 /// The line of play from the board that `text` spells, by the plans of the levels in the folder and
 /// their limit.
-fn line_of<T: Threads + Sync, F: Folder>(
+fn line_verified<T: Threads + Sync, F: Folder>(
     rt: &T,
     alloc: Global,
     folder: &mut F,
     text: &[u8],
 ) -> Result<ValuedLine, NoAnswer>
     ensures same { Same (F.state folder.old).stands (F.state folder.new).stands }
-    ensures line { IfOk result (λ found. IsLineOf (F.state folder.old).stands text.now found.entry.value found.line.moves.items found.line.outcome) }
+    ensures line { IfOk result (λ found. IsLineOf false (F.state folder.old).stands text.now found.entry.value found.line.moves.items found.line.outcome) }
     ensures board { (fault : BoardFault) → (result ≡ Err (no_answer.Board fault)) ↔ IsFaulty text.now fault }
 {
     let Asked { board, shelf } = ask_folder(rt, alloc, folder, text)?;
@@ -101,33 +107,31 @@ fn line_of<T: Threads + Sync, F: Folder>(
     }
 }
 
-/// Prints the value of a board and the line of play from it, or the refusal.
-pub fn run_line<T: Threads + Sync, F: Folder, W: Replies>(
-    rt: &T,
+/// The line of play from the board that `text` spells, by the plans that the files say.
+fn line_unverified<F: Folder>(
     alloc: Global,
     folder: &mut F,
-    board: &str,
-    writer: &mut W,
-) -> u8
-    ensures status { result ≤ 1 }
+    text: &[u8],
+) -> Result<ValuedLine, NoAnswer>
     ensures same { Same (F.state folder.old).stands (F.state folder.new).stands }
-    ensures found { result ≡ 0 → PrintsLine (F.state folder.old).stands board.now (W.contents writer.old) (W.contents writer.new) }
+    ensures line { IfOk result (λ found. IsLineOf true (F.state folder.old).stands text.now found.entry.value found.line.moves.items found.line.outcome) }
+    ensures board { (fault : BoardFault) → (result ≡ Err (no_answer.Board fault)) ↔ IsFaulty text.now fault }
 {
-    match line_of(rt, alloc, folder, board.as_bytes()) {
-        Ok(found) => status_of(print(writer, &found)),
-        Err(fault) => refuse(writer, fault),
-    }
+    let OpenedFor { board, opened } = open_level_of(folder, text, true)?;
+    let entry = awari_places::entry(folder, opened.levels, &board)?;
+    let line = awari_places::best_line(alloc, folder, opened, board)?;
+    Ok(ValuedLine { entry, line })
 }
 
 /// The play from the board that `text` spells in which one side holds out, by the levels in the folder.
-fn longest_line_of<T: Threads + Sync, F: Folder>(
+fn longest_verified<T: Threads + Sync, F: Folder>(
     rt: &T,
     alloc: Global,
     folder: &mut F,
     text: &[u8],
 ) -> Result<LongestLine, NoAnswer>
     ensures same { Same (F.state folder.old).stands (F.state folder.new).stands }
-    ensures line { IfOk result (λ found. IsLongestLineOf (F.state folder.old).stands text.now found.entry.value found.entry.dist found.moves.items) }
+    ensures line { IfOk result (λ found. (board : List ℕ) × IsKnown false (F.state folder.old).stands text.now board (SayLongest board found.entry.value found.entry.dist found.moves.items)) }
     ensures board { (fault : BoardFault) → (result ≡ Err (no_answer.Board fault)) ↔ IsFaulty text.now fault }
 {
     let Asked { board, shelf } = ask_folder(rt, alloc, folder, text)?;
@@ -138,27 +142,58 @@ fn longest_line_of<T: Threads + Sync, F: Folder>(
     }
 }
 
-/// Prints the value and the distance of a board, and the play from it in which the favoured side
-/// follows the plans and the other side holds out, or the refusal.
-pub fn run_longest_line<T: Threads + Sync, F: Folder, W: Replies>(
+/// The same by what the files say.
+fn longest_unverified<F: Folder>(
+    alloc: Global,
+    folder: &mut F,
+    text: &[u8],
+) -> Result<LongestLine, NoAnswer>
+    ensures same { Same (F.state folder.old).stands (F.state folder.new).stands }
+    ensures line { IfOk result (λ found. (board : List ℕ) × IsKnown true (F.state folder.old).stands text.now board (SayLongest board found.entry.value found.entry.dist found.moves.items)) }
+    ensures board { (fault : BoardFault) → (result ≡ Err (no_answer.Board fault)) ↔ IsFaulty text.now fault }
+{
+    let OpenedFor { board, opened } = open_level_of(folder, text, true)?;
+    let entry = awari_places::entry(folder, opened.levels, &board)?;
+    let moves = awari_places::longest_line(alloc, folder, opened.levels, board)?;
+    Ok(LongestLine { entry, moves })
+}
+
+/// The line of play by the plans of both sides that is asked for.
+fn line_of<T: Threads + Sync, F: Folder>(
     rt: &T,
     alloc: Global,
     folder: &mut F,
-    board: &str,
-    writer: &mut W,
-) -> u8
-    ensures status { result ≤ 1 }
+    query: LineQuery<'_>,
+) -> Result<ValuedLine, NoAnswer>
     ensures same { Same (F.state folder.old).stands (F.state folder.new).stands }
-    ensures found { result ≡ 0 → PrintsLongestLine (F.state folder.old).stands board.now (W.contents writer.old) (W.contents writer.new) }
+    ensures line { IfOk result (λ found. IsLineOf query.entry.unverified (F.state folder.old).stands query.entry.board.now found.entry.value found.line.moves.items found.line.outcome) }
 {
-    match longest_line_of(rt, alloc, folder, board.as_bytes()) {
-        Ok(found) => status_of(print(writer, &found)),
-        Err(fault) => refuse(writer, fault),
+    let text = query.board.as_bytes();
+    if query.unverified {
+        return line_unverified(alloc, folder, text);
     }
+    line_verified(rt, alloc, folder, text)
+}
+
+/// The line of play in which one side holds out that is asked for.
+fn longest_line_of<T: Threads + Sync, F: Folder>(
+    rt: &T,
+    alloc: Global,
+    folder: &mut F,
+    query: LineQuery<'_>,
+) -> Result<LongestLine, NoAnswer>
+    ensures same { Same (F.state folder.old).stands (F.state folder.new).stands }
+    ensures line { IfOk result (λ found. (board : List ℕ) × IsKnown query.entry.unverified (F.state folder.old).stands query.entry.board.now board (SayLongest board found.entry.value found.entry.dist found.moves.items)) }
+{
+    let text = query.board.as_bytes();
+    if query.unverified {
+        return longest_unverified(alloc, folder, text);
+    }
+    longest_verified(rt, alloc, folder, text)
 }
 
 /// Prints a line of play from the board of this text as a JSON object, and says whether the writer took it.
-pub(crate) fn print_line_json<W: Write>(board: &str, found: &ValuedLine, writer: &mut W) -> bool
+fn print_line_json<W: Write>(board: &str, found: &ValuedLine, writer: &mut W) -> bool
     ensures { result ≡ true → Appends (W.contents writer.old) (W.contents writer.new)
         (line_json board.now found.now.entry.value found.now.line.moves.items found.now.line.outcome ++ 10 ∷ []) }
 {
@@ -172,7 +207,7 @@ pub(crate) fn print_line_json<W: Write>(board: &str, found: &ValuedLine, writer:
 }
 
 /// Prints a line of play in which one side holds out likewise.
-pub(crate) fn print_longest_json<W: Write>(board: &str, found: &LongestLine, writer: &mut W) -> bool
+fn print_longest_json<W: Write>(board: &str, found: &LongestLine, writer: &mut W) -> bool
     ensures { result ≡ true → Appends (W.contents writer.old) (W.contents writer.new)
         (longest_json board.now found.now.entry.value found.now.entry.dist found.now.moves.items ++ 10 ∷ []) }
 {
@@ -185,38 +220,79 @@ pub(crate) fn print_longest_json<W: Write>(board: &str, found: &LongestLine, wri
     print_members(&members, true, writer)
 }
 
-/// Prints the value of a board and the line of play from it, or the refusal, as JSON in one line.
-pub fn run_line_json<T: Threads + Sync, F: Folder, W: Replies>(
+/// Prints a line by the plans of both sides, and says whether the writer took it.
+fn print_best<W: Write>(found: &ValuedLine, query: LineQuery<'_>, writer: &mut W) -> bool
+    ensures { result ≡ true → Appends (W.contents writer.old) (W.contents writer.new) (shown_best query.entry.json query.entry.board.now found.now.entry.value found.now.line.moves.items found.now.line.outcome ++ 10 ∷ []) }
+{
+    if !query.json {
+        return print(writer, found);
+    }
+    print_line_json(query.board, found, writer)
+}
+
+/// Prints a line in which one side holds out, and says whether the writer took it.
+fn print_longest<W: Write>(found: &LongestLine, query: LineQuery<'_>, writer: &mut W) -> bool
+    ensures { result ≡ true → Appends (W.contents writer.old) (W.contents writer.new) (shown_longest query.entry.json query.entry.board.now found.now.entry.value found.now.entry.dist found.now.moves.items ++ 10 ∷ []) }
+{
+    if !query.json {
+        return print(writer, found);
+    }
+    print_longest_json(query.board, found, writer)
+}
+
+/// Prints the value of a board and the line of play from it, or the refusal: by the plans of both sides, or
+/// with one that holds out, or ply by ply; as lines or as JSON. Who answers is as for `run_ask`. It also
+/// takes memory for the moves.
+pub fn run_line<T: Threads + Sync, F: Folder, W: Replies>(
     rt: &T,
     alloc: Global,
     folder: &mut F,
-    board: &str,
+    query: LineQuery<'_>,
     writer: &mut W,
 ) -> u8
     ensures status { result ≤ 1 }
     ensures same { Same (F.state folder.old).stands (F.state folder.new).stands }
-    ensures found { result ≡ 0 → PrintsLineJson (F.state folder.old).stands board.now (W.contents writer.old) (W.contents writer.new) }
+    ensures found { result ≡ 0 → PrintsLine query.entry (F.state folder.old).stands (W.contents writer.old) (W.contents writer.new) }
 {
-    match line_of(rt, alloc, folder, board.as_bytes()) {
-        Ok(found) => status_of(print_line_json(board, &found, writer)),
-        Err(fault) => refuse_json(writer, "line", board, fault),
+    match (query.plies, query.longest) {
+        (true, _) => run_plies(rt, alloc, folder, query, writer),
+        (false, true) => run_longest(rt, alloc, folder, query, writer),
+        (false, false) => run_best(rt, alloc, folder, query, writer),
     }
 }
 
-/// Prints the same as [`run_longest_line`], or the refusal, as JSON in one line.
-pub fn run_longest_json<T: Threads + Sync, F: Folder, W: Replies>(
+/// Prints the line by the plans of both sides, or the refusal.
+fn run_best<T: Threads + Sync, F: Folder, W: Replies>(
     rt: &T,
     alloc: Global,
     folder: &mut F,
-    board: &str,
+    query: LineQuery<'_>,
     writer: &mut W,
 ) -> u8
     ensures status { result ≤ 1 }
     ensures same { Same (F.state folder.old).stands (F.state folder.new).stands }
-    ensures found { result ≡ 0 → PrintsLongestJson (F.state folder.old).stands board.now (W.contents writer.old) (W.contents writer.new) }
+    ensures found { result ≡ 0 → PrintsLineBy false false query.entry (F.state folder.old).stands (W.contents writer.old) (W.contents writer.new) }
 {
-    match longest_line_of(rt, alloc, folder, board.as_bytes()) {
-        Ok(found) => status_of(print_longest_json(board, &found, writer)),
-        Err(fault) => refuse_json(writer, "line", board, fault),
+    match line_of(rt, alloc, folder, query) {
+        Ok(found) => status_of(print_best(&found, query, writer)),
+        Err(fault) => refuse_as(writer, query.json, "line", query.board, fault),
+    }
+}
+
+/// Prints the line in which one side holds out, or the refusal.
+fn run_longest<T: Threads + Sync, F: Folder, W: Replies>(
+    rt: &T,
+    alloc: Global,
+    folder: &mut F,
+    query: LineQuery<'_>,
+    writer: &mut W,
+) -> u8
+    ensures status { result ≤ 1 }
+    ensures same { Same (F.state folder.old).stands (F.state folder.new).stands }
+    ensures found { result ≡ 0 → PrintsLineBy false true query.entry (F.state folder.old).stands (W.contents writer.old) (W.contents writer.new) }
+{
+    match longest_line_of(rt, alloc, folder, query) {
+        Ok(found) => status_of(print_longest(&found, query, writer)),
+        Err(fault) => refuse_as(writer, query.json, "line", query.board, fault),
     }
 }

@@ -1,14 +1,18 @@
-//! The command `line` with `--plies`: a line of play ply by ply, by the levels in a folder.
+//! The command `line` with `--plies`: a line of play ply by ply.
 
-ghost use Rattle.std.specs.Prelude.{◌≡◌, ◌≤◌, ◌↔◌, ◌++◌, ◌∷◌, [], true, Err, IfOk, IfSome, length};
+ghost use Rattle.std.specs.Prelude.{◌≡◌, ◌≤◌, ◌↔◌, ◌++◌, ◌∷◌, [], ℕ, List, true, false, Err, IfOk, IfSome, length};
 ghost use Rattle.std.specs.Io.KnownBytes.{Appends};
 ghost use Rattle.awari_board.specs.BoardFault.{IsFaulty};
 ghost use Rattle.awari_board.specs.declared.text.BoardFault.{BoardFault};
 ghost use Rattle.awari_folder.specs.Contents.{Same};
-ghost use Rattle.awari_boards.specs.Plies.{ArePliesOf, PrintsPlies, shown_line, shown_plies, shown_ply, shown_repeat};
+ghost use Rattle.awari_play.specs.Plies.{AreLinePlies};
 ghost use Rattle.awari_answers.specs.declared.asked.NoAnswer.TheVariants as no_answer;
+ghost use Rattle.awari_boards.specs.Known.{IsKnown};
+ghost use Rattle.awari_boards.specs.Lines.{PrintsLineBy};
+ghost use Rattle.awari_boards.specs.Plies.{shown_line, shown_plies, shown_ply, shown_repeat};
 
-use awari_answers::{Asked, NoAnswer, Replies, ask_folder, print_members, refuse, refuse_json, status_of};
+use crate::opening::{OpenedFor, open_level_of};
+use awari_answers::{Asked, NoAnswer, Replies, ask_folder, print_members, refuse_as, status_of};
 use awari_folder::Folder;
 use awari_members::Member;
 use awari_play::{LinePlies, Ply, Repeat, line_plies};
@@ -18,7 +22,7 @@ use std::io::Write;
 use std::thread::Threads;
 
 /// The plies of the line of play from the board that `text` spells, by the levels in the folder.
-fn plies_in<T: Threads + Sync, F: Folder>(
+fn plies_verified<T: Threads + Sync, F: Folder>(
     rt: &T,
     alloc: Global,
     folder: &mut F,
@@ -26,13 +30,48 @@ fn plies_in<T: Threads + Sync, F: Folder>(
     longest: bool,
 ) -> Result<LinePlies, NoAnswer>
     ensures same { Same (F.state folder.old).stands (F.state folder.new).stands }
-    ensures plies { IfOk result (λ found. ArePliesOf longest (F.state folder.old).stands text.now found.plies.items found.repeat) }
+    ensures plies { IfOk result (λ found. (board : List ℕ) × IsKnown false (F.state folder.old).stands text.now board (λ images. AreLinePlies longest images board found.plies.items found.repeat)) }
     ensures within { IfOk result (λ found. IfSome found.repeat (λ r. r.again ≤ length found.plies.items)) }
     ensures board { (fault : BoardFault) → (result ≡ Err (no_answer.Board fault)) ↔ IsFaulty text.now fault }
 {
     let Asked { board, shelf } = ask_folder(rt, alloc, folder, text)?;
     let plies = line_plies(alloc, &shelf, board, longest)?;
     Ok(plies)
+}
+
+/// The same by what the files say.
+fn plies_unverified<F: Folder>(
+    alloc: Global,
+    folder: &mut F,
+    text: &[u8],
+    longest: bool,
+) -> Result<LinePlies, NoAnswer>
+    ensures same { Same (F.state folder.old).stands (F.state folder.new).stands }
+    ensures plies { IfOk result (λ found. (board : List ℕ) × IsKnown true (F.state folder.old).stands text.now board (λ images. AreLinePlies longest images board found.plies.items found.repeat)) }
+    ensures within { IfOk result (λ found. IfSome found.repeat (λ r. r.again ≤ length found.plies.items)) }
+    ensures board { (fault : BoardFault) → (result ≡ Err (no_answer.Board fault)) ↔ IsFaulty text.now fault }
+{
+    let OpenedFor { board, opened } = open_level_of(folder, text, true)?;
+    let plies = awari_places::line_plies(alloc, folder, opened, board, longest)?;
+    Ok(plies)
+}
+
+/// The plies of the line of play that is asked for.
+fn plies_of<T: Threads + Sync, F: Folder>(
+    rt: &T,
+    alloc: Global,
+    folder: &mut F,
+    query: LineQuery<'_>,
+) -> Result<LinePlies, NoAnswer>
+    ensures same { Same (F.state folder.old).stands (F.state folder.new).stands }
+    ensures plies { IfOk result (λ found. (board : List ℕ) × IsKnown query.entry.unverified (F.state folder.old).stands query.entry.board.now board (λ images. AreLinePlies query.entry.longest images board found.plies.items found.repeat)) }
+    ensures within { IfOk result (λ found. IfSome found.repeat (λ r. r.again ≤ length found.plies.items)) }
+{
+    let text = query.board.as_bytes();
+    if query.unverified {
+        return plies_unverified(alloc, folder, text, query.longest);
+    }
+    plies_verified(rt, alloc, folder, text, query.longest)
 }
 
 /// Prints a ply, and says whether the writer took it.
@@ -72,7 +111,7 @@ fn print_plies<W: Write>(plies: &[Ply], json: bool, writer: &mut W) -> bool
 }
 
 /// Prints the plies up to the repeat, or all of them, and says whether the writer took that.
-pub(crate) fn print_line<W: Write>(found: &LinePlies, json: bool, writer: &mut W) -> bool
+fn print_line<W: Write>(found: &LinePlies, json: bool, writer: &mut W) -> bool
     requires { IfSome found.now.repeat (λ r. r.again ≤ length found.now.plies.items) }
     ensures { result ≡ true → Appends (W.contents writer.old) (W.contents writer.new) (shown_line json found.now.plies.items found.now.repeat) }
 {
@@ -85,10 +124,9 @@ pub(crate) fn print_line<W: Write>(found: &LinePlies, json: bool, writer: &mut W
     }
 }
 
-/// Prints a line or a JSON object for each ply of the line of play from a board: by the plans of both
-/// sides, or with one that holds out. If the board's value is 0, it ends where a board comes again, and
-/// says so. Or it prints the refusal.
-pub fn run_plies<T: Threads + Sync, F: Folder, W: Replies>(
+/// Prints a line or a JSON object for each ply of the line of play from a board, or the refusal. If the
+/// board's value is 0, it ends where a board comes again, and says so.
+pub(crate) fn run_plies<T: Threads + Sync, F: Folder, W: Replies>(
     rt: &T,
     alloc: Global,
     folder: &mut F,
@@ -97,17 +135,10 @@ pub fn run_plies<T: Threads + Sync, F: Folder, W: Replies>(
 ) -> u8
     ensures status { result ≤ 1 }
     ensures same { Same (F.state folder.old).stands (F.state folder.new).stands }
-    ensures found { result ≡ 0 → PrintsPlies (F.state folder.old).stands query.entry.longest query.entry.json query.entry.board.now (W.contents writer.old) (W.contents writer.new) }
+    ensures found { result ≡ 0 → PrintsLineBy true query.entry.longest query.entry (F.state folder.old).stands (W.contents writer.old) (W.contents writer.new) }
 {
-    let LineQuery {
-        board,
-        longest,
-        json,
-        ..
-    } = query;
-    match plies_in(rt, alloc, folder, board.as_bytes(), longest) {
-        Ok(found) => status_of(print_line(&found, json, writer)),
-        Err(fault) if json => refuse_json(writer, "line", board, fault),
-        Err(fault) => refuse(writer, fault),
+    match plies_of(rt, alloc, folder, query) {
+        Ok(found) => status_of(print_line(&found, query.json, writer)),
+        Err(fault) => refuse_as(writer, query.json, "line", query.board, fault),
     }
 }

@@ -1,29 +1,34 @@
-//! The command `moves`: what each legal move of a board is worth, by the levels in a folder.
+//! The command `moves`: what each legal move of a board is worth.
 
-ghost use Rattle.std.specs.Prelude.{◌≡◌, ◌≤◌, ◌↔◌, Err, IfOk};
+ghost use Rattle.std.specs.Prelude.{◌≡◌, ◌≤◌, ◌↔◌, true, false, Err, IfOk};
+ghost use Rattle.std.specs.Io.KnownBytes.{Appends};
 ghost use Rattle.awari_board.specs.BoardFault.{IsFaulty};
 ghost use Rattle.awari_board.specs.declared.text.BoardFault.{BoardFault};
 ghost use Rattle.awari_folder.specs.Contents.{Same};
-ghost use Rattle.awari_boards.specs.Worths.{IsWeighedIn, PrintsWorths, PrintsWorthsJson};
+ghost use Rattle.awari_play.specs.Worths.{IsWeighed};
 ghost use Rattle.awari_answers.specs.declared.asked.NoAnswer.TheVariants as no_answer;
+ghost use Rattle.awari_boards.specs.Known.{IsKnown};
+ghost use Rattle.awari_boards.specs.Worths.{PrintsWorths, shown_worths};
 
-use awari_answers::{NoAnswer, Replies, ask_folder, print_bytes, refuse, refuse_json, status_of};
+use crate::opening::{OpenedFor, open_level_of};
+use awari_answers::{NoAnswer, Replies, ask_folder, print_bytes, refuse_as, status_of};
 use awari_board::Board;
 use awari_folder::Folder;
 use awari_play::{Weighed, weigh, weighed_json};
 use awari_queries::MovesQuery;
 use std::alloc::Global;
+use std::io::Write;
 use std::thread::Threads;
 
-/// The board that `text` spells, and what it and each of its legal moves are worth, by the levels in the
+/// The board that is asked for, and what it and each of its legal moves are worth, by the levels in the
 /// folder.
-fn weigh_in<T: Threads + Sync, F: Folder>(
+fn weigh_verified<T: Threads + Sync, F: Folder>(
     rt: &T,
     alloc: Global,
     folder: &mut F,
     query: MovesQuery<'_>,
 ) -> Result<(Board, Weighed), NoAnswer>
-    ensures weighed { IfOk result (λ found. IsWeighedIn query.entry.replies (F.state folder.old).stands query.entry.board.now found.0 found.1) }
+    ensures weighed { IfOk result (λ found. IsKnown false (F.state folder.old).stands query.entry.board.now found.0 (λ images. IsWeighed query.entry.replies images found.0 found.1)) }
     ensures same { Same (F.state folder.old).stands (F.state folder.new).stands }
     ensures board { (fault : BoardFault) → (result ≡ Err (no_answer.Board fault)) ↔ IsFaulty query.entry.board.now fault }
 {
@@ -32,8 +37,50 @@ fn weigh_in<T: Threads + Sync, F: Folder>(
     Ok((asked.board, weighed))
 }
 
-/// Prints what each legal move of a board is worth, a line each, with its replies if these are asked for;
-/// or that the play has ended there, or the refusal.
+/// The same by what the files say.
+fn weigh_unverified<F: Folder>(
+    folder: &mut F,
+    query: MovesQuery<'_>,
+) -> Result<(Board, Weighed), NoAnswer>
+    ensures weighed { IfOk result (λ found. IsKnown true (F.state folder.old).stands query.entry.board.now found.0 (λ images. IsWeighed query.entry.replies images found.0 found.1)) }
+    ensures same { Same (F.state folder.old).stands (F.state folder.new).stands }
+    ensures board { (fault : BoardFault) → (result ≡ Err (no_answer.Board fault)) ↔ IsFaulty query.entry.board.now fault }
+{
+    let OpenedFor { board, opened } = open_level_of(folder, query.board.as_bytes(), false)?;
+    let weighed = awari_places::weigh(folder, opened.levels, &board, query.replies)?;
+    Ok((board, weighed))
+}
+
+/// The board that is asked for, and what it and each of its legal moves are worth.
+fn weigh_board<T: Threads + Sync, F: Folder>(
+    rt: &T,
+    alloc: Global,
+    folder: &mut F,
+    query: MovesQuery<'_>,
+) -> Result<(Board, Weighed), NoAnswer>
+    ensures weighed { IfOk result (λ found. IsKnown query.entry.unverified (F.state folder.old).stands query.entry.board.now found.0 (λ images. IsWeighed query.entry.replies images found.0 found.1)) }
+    ensures same { Same (F.state folder.old).stands (F.state folder.new).stands }
+{
+    if query.unverified {
+        return weigh_unverified(folder, query);
+    }
+    weigh_verified(rt, alloc, folder, query)
+}
+
+/// Prints what the moves of a board are worth, and says whether the writer took it.
+fn print_worths<W: Write>(board: &Board, weighed: &Weighed, json: bool, writer: &mut W) -> bool
+    ensures { result ≡ true → Appends (W.contents writer.old) (W.contents writer.new) (shown_worths json board.now weighed.now) }
+{
+    if json {
+        let line = weighed_json(board, weighed);
+        return print_bytes(writer, line.as_slice());
+    }
+    print_bytes(writer, weighed.text().as_slice())
+}
+
+/// Prints what each legal move of a board is worth, with its replies if these are asked for; or that the
+/// play has ended there, or the refusal. It is a line for each move, or JSON in one line. Who answers, and
+/// what memory that takes, is as for `run_ask`.
 pub fn run_moves<T: Threads + Sync, F: Folder, W: Replies>(
     rt: &T,
     alloc: Global,
@@ -42,32 +89,11 @@ pub fn run_moves<T: Threads + Sync, F: Folder, W: Replies>(
     writer: &mut W,
 ) -> u8
     ensures status { result ≤ 1 }
+    ensures found { result ≡ 0 → PrintsWorths query.entry (F.state folder.old).stands (W.contents writer.old) (W.contents writer.new) }
     ensures same { Same (F.state folder.old).stands (F.state folder.new).stands }
-    ensures found { result ≡ 0 → PrintsWorths query.entry.replies (F.state folder.old).stands query.entry.board.now (W.contents writer.old) (W.contents writer.new) }
 {
-    match weigh_in(rt, alloc, folder, query) {
-        Ok((_, weighed)) => status_of(print_bytes(writer, weighed.text().as_slice())),
-        Err(fault) => refuse(writer, fault),
-    }
-}
-
-/// Prints the same, or the refusal, as JSON in one line.
-pub fn run_moves_json<T: Threads + Sync, F: Folder, W: Replies>(
-    rt: &T,
-    alloc: Global,
-    folder: &mut F,
-    query: MovesQuery<'_>,
-    writer: &mut W,
-) -> u8
-    ensures status { result ≤ 1 }
-    ensures same { Same (F.state folder.old).stands (F.state folder.new).stands }
-    ensures found { result ≡ 0 → PrintsWorthsJson query.entry.replies (F.state folder.old).stands query.entry.board.now (W.contents writer.old) (W.contents writer.new) }
-{
-    match weigh_in(rt, alloc, folder, query) {
-        Ok((board, weighed)) => {
-            let line = weighed_json(&board, &weighed);
-            status_of(print_bytes(writer, line.as_slice()))
-        }
-        Err(fault) => refuse_json(writer, "moves", query.board, fault),
+    match weigh_board(rt, alloc, folder, query) {
+        Ok((board, weighed)) => status_of(print_worths(&board, &weighed, query.json, writer)),
+        Err(fault) => refuse_as(writer, query.json, "moves", query.board, fault),
     }
 }

@@ -9,16 +9,13 @@ use Rattle.awari_cli.specs.Building.{PrintsAllLevels, PrintsLevels}
 use Rattle.awari_cli.specs.Hosts.{Stands}
 use Rattle.awari_cli.specs.Migrating.{PrintsMigrated}
 use Rattle.awari_cli.specs.Serving.{PrintsService}
-use Rattle.awari_boards.specs.Asks.{PrintsEntry, PrintsEntryJson}
+use Rattle.awari_boards.specs.Asks.{PrintsEntry}
 use Rattle.awari_levels.specs.Wishes.{PrintsFolder}
 use Rattle.awari_boards.specs.Judgement.{PrintsJudgement, bytes_of}
-use Rattle.awari_boards.specs.Lines.{PrintsLineBy}
+use Rattle.awari_boards.specs.Lines.{PrintsLine}
 use Rattle.awari_boards.specs.Playing.{PrintsMove}
-use Rattle.awari_boards.specs.Plies.{PrintsPlies}
 use Rattle.awari_levels.specs.Texts.{PrintsText}
-use Rattle.awari_boards.specs.Unverified.{PrintsEntrySaidBy, PrintsWorthsSaidBy}
-use Rattle.awari_boards.specs.UnverifiedLines.{PrintsLineSaid, PrintsPliesSaid}
-use Rattle.awari_boards.specs.Worths.{PrintsWorths, PrintsWorthsJson}
+use Rattle.awari_boards.specs.Worths.{PrintsWorths}
 use Rattle.awari_levels.specs.Boards.{PrintsAllBoards, PrintsBoardsBy}
 use Rattle.awari_pairs.specs.Pairs.{PrintsPairsBy}
 use Rattle.awari_queries.specs.declared.questions.CountsQuery.{CountsQuery}
@@ -36,25 +33,6 @@ abbrev pub PrintsTextOf : Bool → Stands → Option ℕ → Option (List ℕ) �
 PrintsTextOf false = PrintsText
 PrintsTextOf true = PrintsAllBoards
 
--- a board's entry: by right levels or by what the files say, as JSON or as a line
-abbrev pub PrintsEntryBy : Bool → Bool → Stands → List ℕ → Option (List ℕ) → Option (List ℕ) → Type 0
-PrintsEntryBy false false = PrintsEntry
-PrintsEntryBy false true = PrintsEntryJson
-PrintsEntryBy true json = PrintsEntrySaidBy json
-
--- what a board's moves are worth, likewise
-abbrev pub PrintsWorthsBy : Bool → Bool → Bool → Stands → List ℕ → Option (List ℕ) → Option (List ℕ) → Type 0
-PrintsWorthsBy false false = PrintsWorths
-PrintsWorthsBy false true = PrintsWorthsJson
-PrintsWorthsBy true json = PrintsWorthsSaidBy json
-
--- a line of play, in one line or ply by ply: by right levels or by what the files say
-abbrev pub PrintsLineAsked : Bool → Bool → Bool → Bool → Stands → List ℕ → Option (List ℕ) → Option (List ℕ) → Type 0
-PrintsLineAsked false false longest json stands = PrintsLineBy longest json stands
-PrintsLineAsked false true longest json stands = PrintsLineSaid longest json stands
-PrintsLineAsked true false longest json stands = PrintsPlies stands longest json
-PrintsLineAsked true true longest json stands = PrintsPliesSaid stands longest json
-
 -- the answers to the lines that the reader had left, by right levels or by what the files say
 abbrev pub PrintsServiceBy : Bool → Stands → Option (List ℕ) → Option (List ℕ) → Option (List ℕ) → Type 0
 PrintsServiceBy false = PrintsService
@@ -70,9 +48,9 @@ PrintsNumbers (Some by) q stands = PrintsPairsBy q.unverified stands q
 abbrev pub PrintsAnswer : Question → Stands → Option (List ℕ) → Option (List ℕ) → Option (List ℕ) → Type 0
 PrintsAnswer (Verify q) stands input = PrintsFolder q.levels q.digest stands
 PrintsAnswer (Text q) stands input = PrintsTextOf q.boards stands q.level
-PrintsAnswer (Ask q) stands input = PrintsEntryBy q.unverified q.json stands q.board.now
-PrintsAnswer (Moves q) stands input = PrintsWorthsBy q.unverified q.json q.replies stands q.board.now
-PrintsAnswer (Line q) stands input = PrintsLineAsked q.plies q.unverified q.longest q.json stands q.board.now
+PrintsAnswer (Ask q) stands input = PrintsEntry q stands
+PrintsAnswer (Moves q) stands input = PrintsWorths q stands
+PrintsAnswer (Line q) stands input = PrintsLine q stands
 PrintsAnswer (Serve q) stands input = PrintsServiceBy q.unverified stands input
 PrintsAnswer (Counts q) stands input = PrintsNumbers q.by q stands
 PrintsAnswer (Boards q) stands input = PrintsBoardsBy q.unverified stands q

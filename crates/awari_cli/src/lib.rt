@@ -42,13 +42,10 @@ mod ways;
 mod writing;
 
 pub use awari_answers::{Answers, NoAnswer, Replies, Streams};
-pub use awari_boards::{
-    Judgement, Played, judge, play_on, run_ask, run_ask_json, run_line, run_line_json,
-    run_longest_json, run_longest_line, run_moves, run_moves_json, run_plies,
-};
+pub use awari_boards::{Judgement, Played, judge, play_on, run_ask, run_line, run_moves};
 pub use awari_check::check;
 pub use awari_levels::{run_text, run_verify};
-pub use awari_queries::{LineQuery, MovesQuery, ServeQuery, VerifyQuery};
+pub use awari_queries::{AskQuery, LineQuery, MovesQuery, ServeQuery, VerifyQuery};
 pub use beside::BuildProgress;
 pub use building::{Builder, run_build_in};
 pub use disk::Disk;

@@ -4,14 +4,15 @@
 
 use awari_build::Pace;
 use awari_cli::{
-    BuildProgress, Builder, Disk, HowTold, MovesQuery, ProgressLines, Replies, ServeQuery, Streams,
-    VerifyQuery, run, run_ask, run_build_in, run_line, run_moves, run_serve, run_text, run_verify,
+    AskQuery, BuildProgress, Builder, Disk, HowTold, LineQuery, MovesQuery, ProgressLines, Replies,
+    ServeQuery, Streams, VerifyQuery, run, run_ask, run_build_in, run_line, run_moves, run_serve,
+    run_text, run_verify,
 };
 use awari_file_tests::MemoryFolder;
 use awari_folder::Folder;
 use awari_heard::Silent;
-use awari_queries::{BoardSpans, BoardsQuery};
 use awari_levels::{run_all_boards, run_boards};
+use awari_queries::{BoardSpans, BoardsQuery};
 use awari_unverified::run_serve_unverified;
 use std::alloc::Global;
 use std::fs::File;
@@ -143,7 +144,12 @@ pub(crate) fn asked(
     board: &str,
     output: &mut Vec<u8>,
 ) -> u8 {
-    run_ask(rt, rt.alloc(), folder, board, output)
+    let query = AskQuery {
+        board,
+        json: false,
+        unverified: false,
+    };
+    run_ask(rt, rt.alloc(), folder, query, output)
 }
 
 /// Plays the line of a board by the folder, and gives the status.
@@ -153,7 +159,14 @@ pub(crate) fn lined(
     board: &str,
     output: &mut impl Replies,
 ) -> u8 {
-    run_line(rt, rt.alloc(), folder, board, output)
+    let query = LineQuery {
+        board,
+        longest: false,
+        plies: false,
+        json: false,
+        unverified: false,
+    };
+    run_line(rt, rt.alloc(), folder, query, output)
 }
 
 /// Says what the moves of a board are worth by the folder, and gives the status.

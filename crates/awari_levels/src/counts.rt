@@ -17,7 +17,7 @@ ghost use Rattle.awari_levels.specs.Tallies.{AreByDistance, AreByValue, IsTallyO
 use crate::shown::{print_distance, print_level, print_value};
 use crate::tallies::{Tally, VALUES, tally_level, value_of};
 use arrayvec::ArrayString;
-use awari_answers::{LevelLine, NoAnswer, Replies, load_levels, refuse, refuse_json, status_of};
+use awari_answers::{LevelLine, NoAnswer, Replies, load_levels, refuse_as, status_of};
 use awari_facts::{Source, count_levels, load_to, open_all, open_to, read_limit};
 use awari_folder::{Folder, FolderFault};
 use awari_places::Opened;
@@ -188,15 +188,12 @@ fn print_counts<F: Folder, W: Write>(
 fn refuse_counts<W: Replies>(writer: &mut W, query: CountsQuery<'_>, fault: NoAnswer) -> u8
     ensures { result ≡ 1 }
 {
-    if !query.json {
-        return refuse(writer, fault);
-    }
     let mut word = ArrayString::<3>::new();
     if let Some(level) = query.level {
         // There is room for any level.
         let _ = write!(word, "{level}");
     }
-    refuse_json(writer, "counts", word.as_str(), fault)
+    refuse_as(writer, query.json, "counts", word.as_str(), fault)
 }
 
 /// The levels in a folder, up to the one of this number if there is one.

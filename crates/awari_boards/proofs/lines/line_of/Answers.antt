@@ -1,14 +1,11 @@
-use Rattle.std.proofs.Common.{◌∙◌, ap, sym, refl, arith, ◌+◌, sum}
-use Rattle.awari_table.proofs.CertificateLemmas.{greatest_limit-take}
+use Rattle.std.proofs.Common.{ℕ, Bool, true, false, IfOk, List, sym, subst}
+use Rattle.awari_boards.specs.Lines.{IsLineOf}
 use Rattle.awari_boards.proofs.lines.line_of.Goals as goal
 
+pub returns-then-query-clause-line : goal.returns-then-query-clause-line
+returns-then-query-clause-line g c = subst (λ (u : Bool). IfOk c.line_unverified.result (λ found. IsLineOf u (g.F.Folder.state c.args.folder.now).stands c.args.query.board.now found.entry.value found.line.moves.items found.line.outcome)) (sym c.if-query.true)
+    (subst (λ (t : List ℕ). IfOk c.line_unverified.result (λ found. IsLineOf true (g.F.Folder.state c.args.folder.now).stands t found.entry.value found.line.moves.items found.line.outcome)) c.as_bytes-text.ensures.value c.line_unverified.ensures.line)
+
 pub returns-clause-line : goal.returns-clause-line
-returns-clause-line g c = record {
-  images = c.in_ok-board.field-0.shelf;
-  board = c.in_ok-board.field-0.board;
-  asked = c.in_ok-board.ensures.asked;
-  known = c.in-Ok.ensures.known.0 refl;
-  valued = ap (λ e. e.value) c.in-Ok.ensures.entry;
-  line = rw (sym c.limit.ensures) c.in_ok-line.ensures.line;
-  comes = c.in_ok-line.ensures.value (omega (arith, c.limit.ensures, greatest_limit-take c.in_ok-board.field-0.shelf (sum c.in_ok-board.field-0.board + 1))) ∙ sym (ap (λ e. e.value) c.in-Ok.ensures.entry);
-}
+returns-clause-line g c = subst (λ (u : Bool). IfOk c.line_verified.result (λ found. IsLineOf u (g.F.Folder.state c.args.folder.now).stands c.args.query.board.now found.entry.value found.line.moves.items found.line.outcome)) (sym c.if-query.false)
+    (subst (λ (t : List ℕ). IfOk c.line_verified.result (λ found. IsLineOf false (g.F.Folder.state c.args.folder.now).stands t found.entry.value found.line.moves.items found.line.outcome)) c.as_bytes-text.ensures.value c.line_verified.ensures.line)

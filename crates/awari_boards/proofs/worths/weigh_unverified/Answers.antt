@@ -1,7 +1,7 @@
 use Rattle.std.proofs.Common.{subst}
 use Rattle.awari_places.proofs.Reading.{still_says}
-use Rattle.awari_boards.specs.Unverified.{IsOpened}
-use Rattle.awari_boards.proofs.unverified.weigh_unverified.Goals as goal
+use Rattle.awari_boards.specs.Known.{IsOpened}
+use Rattle.awari_boards.proofs.worths.weigh_unverified.Goals as goal
 
 pub returns-clause-weighed : goal.returns-clause-weighed
 returns-clause-weighed g c = record {

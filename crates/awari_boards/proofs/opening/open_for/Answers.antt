@@ -1,7 +1,7 @@
 use Rattle.std.proofs.Common.{◌∙◌, ap, min, rules, subst}
 use Rattle.awari_places.specs.Opening.{AreFramed}
 use Rattle.awari_table.specs.declared.TheConstants.{HIGHEST_LEVEL}
-use Rattle.awari_boards.proofs.unverified.open_for.Goals as goal
+use Rattle.awari_boards.proofs.opening.open_for.Goals as goal
 
 pub returns-clause-opened : goal.returns-clause-opened
 returns-clause-opened g c = record {
