@@ -1,7 +1,7 @@
 //! What the program prints.
 
 ghost use Rattle.std.specs.Prelude.{◌≡◌, ◌≢◌, ◌↔◌, IfSome};
-ghost use Rattle.awari_table.specs.Counted.{inner_of, faults_of, Grew};
+ghost use Rattle.awari_streams.specs.Counted.{inner_of, faults_of, Grew};
 ghost use Rattle.awari_check.specs.declared.answers.Answer.TheVariants as answer;
 ghost use Rattle.awari_check.specs.Answer.{IsAnswer};
 

@@ -19,7 +19,7 @@ use crate::writing::{Migration, run_build_asked, run_estimate, run_migration};
 use awari_answers::{Replies, Streams, print, refuse, status_of, tell_answer};
 use awari_boards::{Played, judge, play_on, run_board, run_plays, run_rank};
 use awari_check::check_input;
-use awari_table::Counted;
+use awari_streams::Counted;
 use awari_words::{Request, request_of, understand};
 use clap::ArgMatches;
 use std::alloc::Global;

@@ -10,7 +10,7 @@ use crate::worths::LEVELS_3_TO_4;
 use awari_build::build_alone;
 use awari_cli::Streams;
 use awari_desk::{Publisher, Reader, ServeFault, desk, serve};
-use awari_table::Counted;
+use awari_streams::Counted;
 use std::alloc::Global;
 use std::fs::File;
 use std::io::{self, ErrorKind, Read, Write};

@@ -1,7 +1,6 @@
 //! What a request of the service is answered by.
 
 ghost use Rattle.std.specs.Prelude.{◌≡◌, ◌≤◌, ◌++◌, ◌∷◌, [], codes, length};
-ghost use Rattle.std.specs.Fmt.{decimal};
 ghost use Rattle.awari_board.specs.BoardFault.{fault_text, name_of as board_name_of};
 ghost use Rattle.awari_desk.specs.ProbeFault.{name_of as probe_name_of, number_of as probe_number_of};
 ghost use Rattle.awari_desk.specs.Service.{answer_text};
@@ -13,7 +12,8 @@ use crate::requests::LONGEST_REQUEST;
 use arrayvec::ArrayVec;
 use awari_board::{Board, BoardFault};
 use awari_play::{AnswerText, Weighed, refusal_json, text_of_line, weighed_json};
-use awari_table::{Entry, TextLine, line_of_entry, push_number, push_text};
+use awari_streams::{TextLine, numbered_line, push_text};
+use awari_table::{Entry, line_of_entry};
 
 /// The answer to one request. `F` is why who is asked does not answer.
 #[derive(Drop)]
@@ -54,19 +54,6 @@ pub enum Answer<F> {
     What,
 }
 
-/// A text, and a number behind it.
-#[tactic(auto, using(awari_table::proofs::Digits::three_digits))]
-pub(crate) fn numbered_line_of(text: &[u8], number: u8) -> TextLine
-    requires { length text.now ≤ 20 }
-    ensures { result.items ≡ text.now ++ (decimal number ++ 10 ∷ []) }
-{
-    let mut line = TextLine::new();
-    push_text(&mut line, text);
-    push_number(&mut line, u64::from(number));
-    line.push(b'\n');
-    line
-}
-
 pub(crate) fn line_of_text(text: &[u8]) -> TextLine
     requires { length text.now ≤ 20 }
     ensures { result.items ≡ text.now }
@@ -101,7 +88,7 @@ pub(crate) fn text_of_answer<O: Oracle>(answer: &Answer<O::Fault>) -> AnswerText
         ),
         Answer::Unanswered { fault } => text_of_line(&O::line_of(fault)),
         Answer::Refused { fault } => text_of_line(&refused_line_of(*fault)),
-        Answer::Seen { levels } => text_of_line(&numbered_line_of(b"seen ", *levels)),
+        Answer::Seen { levels } => text_of_line(&numbered_line(b"seen ", *levels)),
         Answer::Bye => text_of_line(&line_of_text(b"bye\n")),
         Answer::What => text_of_line(&line_of_text(b"what\n")),
     }

@@ -2,14 +2,15 @@
 
 ghost use Rattle.std.specs.Prelude.{◌≡◌, length, max};
 
-use crate::answers::{line_of_text, numbered_line_of};
+use crate::answers::line_of_text;
 use crate::books::Seat;
 use crate::faults::AskFault;
 use crate::looks::{Question, look, look_at_moves};
 use crate::oracles::Oracle;
 use awari_board::Board;
 use awari_play::Weighed;
-use awari_table::{Entry, TextLine};
+use awari_streams::{TextLine, numbered_line};
+use awari_table::Entry;
 use core::mem::replace_with;
 use std::marker::Model;
 
@@ -140,7 +141,7 @@ impl Oracle for Reader {
 
     fn line_of(fault: &AskFault) -> TextLine {
         match fault {
-            AskFault::NotYet { levels } => numbered_line_of(b"not yet ", *levels),
+            AskFault::NotYet { levels } => numbered_line(b"not yet ", *levels),
             AskFault::Gone => line_of_text(b"gone\n"),
         }
     }

@@ -2,7 +2,7 @@
 
 ghost use Rattle.std.specs.Prelude.{◌≡◌, ◌<◌, ◌+◌, ◌++◌, ◌∷◌, [], ℕ, List, Option, length, true, false, Err, IfSome, OnOk, OnErr};
 ghost use Rattle.std.specs.Io.KnownBytes.{Appends};
-ghost use Rattle.awari_table.specs.Counted.{inner_of, faults_of, Grew};
+ghost use Rattle.awari_streams.specs.Counted.{inner_of, faults_of, Grew};
 ghost use Rattle.awari_desk.specs.Coming.{Holds, Serving, Responds, Feeds, Ends, Moves};
 ghost use Rattle.awari_desk.specs.Service.{IsInput, HasServed, HasServedWithin, HasBegun, HasBegunWithin};
 ghost use Rattle.awari_desk.specs.declared.faults.ServeFault.TheVariants as serve_fault;
@@ -11,7 +11,7 @@ use crate::answers::{Answer, text_of_answer};
 use crate::faults::ServeFault;
 use crate::oracles::Oracle;
 use crate::requests::Coming;
-use awari_table::Counted;
+use awari_streams::Counted;
 use std::io::{Read, Write};
 
 /// The most bytes that a service takes.

@@ -12,7 +12,7 @@ use Rattle.awari_file.specs.Reading.{◌>>=◌, field, digest_if, as_they_are, e
 use Rattle.awari_file.specs.Source as source
 use Rattle.awari_file.specs.Source.{StopsIn}
 use Rattle.awari_file.specs.Sealing.{Ends, EndsEarly, IsBehind, TellsBehind, behind_by}
-use Rattle.awari_table.specs.Counted.{Grew}
+use Rattle.awari_streams.specs.Counted.{Grew}
 use Rattle.awari_file.proofs.FieldLaws.{guard_ok, ok_is, err_is}
 use Rattle.awari_file.proofs.Steps.{consumes_some, end_is}
 

@@ -1,7 +1,7 @@
 -- A file whose digest was compared.
 use Rattle.std.proofs.Common.{◌≡◌, ◌≢◌, inl, inr, ℕ, List, [], ◌∷◌, ◌++◌, Option, Some, None, Result, Ok, Err, refl, sym, ap, subst, ◌∙◌, append_assoc, append-nil}
 use Rattle.std.specs.Prelude.{IfSome, ⊤, ◌≤◌}
-use Rattle.awari_table.specs.Counted.{Grew}
+use Rattle.awari_streams.specs.Counted.{Grew}
 use Rattle.awari_table.specs.declared.images.Entry.{Entry}
 use Rattle.awari_file.specs.declared.contents.Header.{Header}
 use Rattle.awari_file.specs.declared.contents.Loaded.{Loaded}

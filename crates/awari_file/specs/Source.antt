@@ -4,7 +4,7 @@ use Rattle.std.specs.Io.KnownBytes.{Appends, IsAtEnd}
 use Rattle.sha2.specs.Hashers.{Holds256}
 use Rattle.sha2.specs.declared.Sha256.{Sha256}
 use Rattle.awari_rank.specs.Rank.{size_of}
-use Rattle.awari_table.specs.Counted.{Grew}
+use Rattle.awari_streams.specs.Counted.{Grew}
 use Rattle.awari_file.specs.declared.contents.Header.{Header}
 use Rattle.awari_file.specs.declared.sizes.TheConstants.{BUFFERED}
 use Rattle.awari_file.specs.declared.faults.FileFault.{FileFault}

@@ -4,7 +4,7 @@ ghost use Rattle.std.specs.Prelude.{◌≡◌, ◌↔◌, ◌≤◌, ◌+◌, �
 ghost use Rattle.std.specs.List.{flat_map};
 ghost use Rattle.sha2.specs.Sha256.{sha256};
 ghost use Rattle.sha2.specs.Hashers.{Holds256};
-ghost use Rattle.awari_table.specs.Counted.{inner_of, faults_of, Grew};
+ghost use Rattle.awari_streams.specs.Counted.{inner_of, faults_of, Grew};
 ghost use Rattle.awari_table.specs.Spelling.{FitsNumbers};
 ghost use Rattle.awari_file.specs.FileText.{HasFile, entry_text, body_text, file_text};
 ghost use Rattle.awari_rank.specs.Rank.{size_of};
@@ -17,7 +17,8 @@ use crate::sizes::{BUFFER_LEN, BUFFERED};
 use crate::source::fill;
 use crate::writing::{header_of, spell_run};
 use awari_rank::size;
-use awari_table::{Counted, Level};
+use awari_streams::Counted;
+use awari_table::Level;
 use sha2::{Digest, Sha256};
 use std::io::Read;
 

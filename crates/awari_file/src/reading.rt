@@ -2,7 +2,7 @@
 
 ghost use Rattle.std.specs.Prelude.{◌≡◌, ◌≢◌, ◌≤◌, ◌+◌, min, List, ℕ, IfErr, IfOk, MatchResult, OnOk, IsOk, IfSome, Some, Ok, Err};
 ghost use Rattle.awari_table.specs.declared.TheConstants.{HIGHEST_LEVEL};
-ghost use Rattle.awari_table.specs.Counted.{inner_of, faults_of, Grew};
+ghost use Rattle.awari_streams.specs.Counted.{inner_of, faults_of, Grew};
 ghost use Rattle.awari_table.specs.declared.images.Image.{Image};
 ghost use Rattle.awari_file.specs.declared.faults.FileFault.{FileFault};
 ghost use Rattle.awari_file.specs.declared.sizes.TheConstants.{BUFFERED};
@@ -18,7 +18,8 @@ use crate::sealing::{Behind, End, Unsealed};
 use crate::sizes::{BUFFER_LEN, BUFFERED, END_LEN, ENTRY_LEN, HEADER_LEN};
 use crate::source::fill;
 use awari_rank::size;
-use awari_table::{Counted, Entries, Image};
+use awari_streams::Counted;
+use awari_table::{Entries, Image};
 use std::alloc::{AllocError, Global};
 use std::io::Read;
 

@@ -2,12 +2,12 @@
 
 ghost use Rattle.std.specs.Prelude.{◌≡◌, ◌≢◌, ◌≤◌, ◌<◌, length, take};
 ghost use Rattle.std.specs.Io.KnownBytes.{Consumes};
-ghost use Rattle.awari_table.specs.Counted.{inner_of, faults_of, Grew};
+ghost use Rattle.awari_streams.specs.Counted.{inner_of, faults_of, Grew};
 ghost use Rattle.awari_file.specs.FileText.{IsBytes};
 ghost use Rattle.awari_file.specs.Source.{IsWhy};
 
 use crate::faults::FileFault;
-use awari_table::Counted;
+use awari_streams::Counted;
 use std::io::Read;
 
 /// How many bytes came, and why there are no more if they are fewer than were asked for.

@@ -1,7 +1,7 @@
 -- A folder that stays as it is.
 use Rattle.std.proofs.Common.{◌≡◌, ◌∙◌, ◌⊎◌, inl, inr, ⊎_elim, ℕ, List, Option, Some, None, refl, subst}
 use Rattle.std.specs.Prelude.{IfSome, Result}
-use Rattle.awari_table.specs.Counted.{Grew}
+use Rattle.awari_streams.specs.Counted.{Grew}
 use Rattle.awari_folder.specs.declared.faults.FolderFault.{FolderFault}
 use Rattle.awari_folder.specs.Contents.{LeavesToo, OpenIfRefused}
 use Rattle.awari_folder.specs.State.{DraftsOnly, Leaves, MayName, OnlyReads, State, Unchanged}

@@ -1,6 +1,6 @@
 -- What stands under the names of a folder's levels, and what its calls do to that.
 use Rattle.std.specs.Prelude.{◌≡◌, ◌≢◌, ◌<◌, ◌≤◌, ◌+◌, ◌⊎◌, ⊤, ℕ, zero, suc, List, [], length, take, drop, replicate, Option, Some, None, IfSome, IsSomeAnd, IsNone, Result, Ok, Err}
-use Rattle.awari_table.specs.Counted.{Grew}
+use Rattle.awari_streams.specs.Counted.{Grew}
 use Rattle.awari_table.specs.declared.TheConstants.{HIGHEST_LEVEL}
 use Rattle.awari_table.specs.declared.images.Image.{Image}
 use Rattle.awari_file.specs.Source.{BeginsRight}

@@ -1,7 +1,7 @@
 -- What is known of a folder, and how little its calls change of it.
 use Rattle.std.specs.Prelude.{◌≡◌, ◌⊎◌, ℕ, List, [], ◌∷◌, ◌++◌, Option, None, Some, IfSome, Result}
 use Rattle.sha2.specs.Sha256.{sha256}
-use Rattle.awari_table.specs.Counted.{Grew}
+use Rattle.awari_streams.specs.Counted.{Grew}
 use Rattle.awari_table.specs.Shelves.{Consistent}
 use Rattle.awari_table.specs.declared.images.Image.{Image}
 use Rattle.awari_file.specs.FileText.{body_text, file_text}

@@ -1,7 +1,7 @@
 -- What is said of a file that was read, over a shelf.
 use Rattle.std.specs.Prelude.{◌≡◌, ◌≢◌, ◌⊎◌, ⊤, ℕ, List, [], ◌∷◌, ◌++◌, Option, Some, None, Result, Ok, Err}
 use Rattle.awari_table.specs.declared.images.Image.{Image}
-use Rattle.awari_table.specs.Counted.{Grew}
+use Rattle.awari_streams.specs.Counted.{Grew}
 use Rattle.awari_table.specs.Shelves.{Consistent}
 use Rattle.awari_theory.specs.Truth.{TellsTruth}
 use Rattle.awari_file.specs.declared.faults.FileFault.{FileFault}

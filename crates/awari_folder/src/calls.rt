@@ -2,7 +2,7 @@
 
 ghost use Rattle.std.specs.Prelude.{◌≡◌, ◌≤◌, ℕ, List, [], Option, Some, IfSome, IfOk, OnOk, OnErr};
 ghost use Rattle.awari_table.specs.declared.TheConstants.{HIGHEST_LEVEL};
-ghost use Rattle.awari_table.specs.Counted.{Grew};
+ghost use Rattle.awari_streams.specs.Counted.{Grew};
 ghost use Rattle.awari_folder.specs.Contents.{Same, Opens, Reads, IsLeftOf, IsWhole, Counts};
 ghost use Rattle.awari_folder.specs.State.{DraftsOnly, GetsName, MayName, State, Unchanged};
 

@@ -2,7 +2,7 @@
 
 ghost use Rattle.std.specs.Prelude.{◌≡◌, Some, IfOk, IfErr, IfSome, OnOk, OnErr};
 ghost use Rattle.sha2.specs.Sha256.{sha256};
-ghost use Rattle.awari_table.specs.Counted.{faults_of, inner_of};
+ghost use Rattle.awari_streams.specs.Counted.{faults_of, inner_of};
 ghost use Rattle.awari_file.specs.FileText.{HasFile, body_text, file_text};
 ghost use Rattle.awari_folder.specs.FolderFault.{Names};
 ghost use Rattle.awari_folder.specs.Keeping.{IsComparedFault, IsFreeFor, IsKeepFault};

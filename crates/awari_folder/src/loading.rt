@@ -1,7 +1,7 @@
 //! A shelf from the files in a folder.
 
 ghost use Rattle.std.specs.Prelude.{◌≡◌, ◌≢◌, ℕ, ◌+◌, ◌≤◌, [], List, Option, IfOk, IfErr, OnOk, OnErr, replicate, IfSome, Err, Ok, length, MatchResult};
-ghost use Rattle.awari_table.specs.Counted.{inner_of, faults_of, Grew};
+ghost use Rattle.awari_streams.specs.Counted.{inner_of, faults_of, Grew};
 ghost use Rattle.awari_table.specs.declared.TheConstants.{HIGHEST_LEVEL};
 ghost use Rattle.awari_theory.specs.Truth.{TellsTruth};
 ghost use Rattle.awari_file.specs.Sealing.{IsUnsealed};

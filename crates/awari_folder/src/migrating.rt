@@ -3,7 +3,7 @@
 ghost use Rattle.std.specs.Prelude.{◌≡◌, ◌≤◌, ℕ, List, Option, Some, None, [], ◌∷◌, ◌++◌, IfOk, IfErr, IfSome, OnOk, OnErr, MatchResult, length};
 ghost use Rattle.awari_table.specs.declared.TheConstants.{HIGHEST_LEVEL};
 ghost use Rattle.awari_table.specs.declared.images.Image.{Image};
-ghost use Rattle.awari_table.specs.Counted.{faults_of, inner_of};
+ghost use Rattle.awari_streams.specs.Counted.{faults_of, inner_of};
 ghost use Rattle.awari_table.specs.Shelves.{Consistent, ConsistentBy};
 ghost use Rattle.awari_file.specs.FileText.{body_text};
 ghost use Rattle.awari_verify.specs.VerifyFault.{IsDueBy};

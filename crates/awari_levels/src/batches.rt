@@ -123,7 +123,7 @@ fn push_stem(batch: &mut Batch, form: Form, board: &Board, entry: Entry)
 }
 
 /// Puts a number on request behind a line. Condition: there is room for 16 bytes.
-#[tactic(auto, unfolding(crate::specs::Listing::added_text), using(awari_table::proofs::Digits::three_digits))]
+#[tactic(auto, unfolding(crate::specs::Listing::added_text), using(awari_streams::proofs::Digits::three_digits))]
 fn push_added(batch: &mut Batch, form: Form, name: &[u8], number: Option<u8>)
     requires room { array_vec_len batch.old + 16 ≤ ROOM }
     requires name { length name.now ≤ 5 }
@@ -160,7 +160,7 @@ fn push_end(batch: &mut Batch, form: Form)
 }
 
 /// The line of a board and its entry, with spaces.
-#[tactic(auto, unfolding(crate::specs::Listing::stem_of), using(awari_table::proofs::Digits::ten_digits, awari_table::proofs::Digits::three_digits))]
+#[tactic(auto, unfolding(crate::specs::Listing::stem_of), using(awari_streams::proofs::Digits::ten_digits, awari_table::proofs::Digits::three_digits))]
 fn text_stem(board: &Board, entry: Entry) -> TextLine
     ensures { result.items ≡ stem_of Text board.now entry }
 {
@@ -179,7 +179,7 @@ fn text_stem(board: &Board, entry: Entry) -> TextLine
 }
 
 /// The line of a board and its entry, with commas.
-#[tactic(auto, unfolding(crate::specs::Listing::stem_of), using(awari_table::proofs::Digits::ten_digits, awari_table::proofs::Digits::three_digits))]
+#[tactic(auto, unfolding(crate::specs::Listing::stem_of), using(awari_streams::proofs::Digits::ten_digits, awari_table::proofs::Digits::three_digits))]
 fn csv_stem(board: &Board, entry: Entry) -> TextLine
     ensures { result.items ≡ stem_of Csv board.now entry }
 {

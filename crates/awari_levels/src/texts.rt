@@ -1,7 +1,7 @@
 //! The command `text`: the levels in a folder as the text of tables.
 
 ghost use Rattle.std.specs.Prelude.{◌≡◌, ◌≤◌, ◌<◌, ◌↔◌, true, IsTrue, IfSome, OnOk, length};
-ghost use Rattle.awari_table.specs.Counted.{inner_of};
+ghost use Rattle.awari_streams.specs.Counted.{inner_of};
 ghost use Rattle.awari_table.specs.Shelves.{IsShelf};
 ghost use Rattle.awari_folder.specs.Contents.{Same};
 ghost use Rattle.awari_levels.specs.Texts.{AppendsText, PrintsText};

@@ -56,7 +56,7 @@ pub fn weighed_json(board: &Board, weighed: &Weighed) -> AnswerText
 
 /// The line of a request that was refused: its bytes, and the number and the name of the refusal.
 /// Conditions: the request has at most 200 bytes, and the name at most 20. It takes no memory.
-#[tactic(auto, using(awari_table::proofs::Digits::three_digits))]
+#[tactic(auto, using(awari_streams::proofs::Digits::three_digits))]
 pub fn refusal_json(request: &[u8], number: u8, name: &[u8]) -> AnswerText
     requires request { length request.now ≤ 200 }
     requires name { length name.now ≤ 20 }
@@ -122,7 +122,7 @@ fn push_plan_member(text: &mut AnswerText, mark: u8, plan: Option<u8>)
 }
 
 /// Opens an object, and puts the members of an entry.
-#[tactic(auto, using(awari_table::proofs::Digits::ten_digits))]
+#[tactic(auto, using(awari_streams::proofs::Digits::ten_digits))]
 fn push_entry(text: &mut AnswerText, board: &Board, entry: Entry)
     requires { array_vec_len text.old + 110 ≤ ANSWER_ROOM }
     ensures items { text.new.items ≡ text.old.items ++ entry_part board.now entry }
@@ -172,7 +172,7 @@ fn push_move(text: &mut AnswerText, plan: Option<u8>, weighed: WeighedMove)
 }
 
 /// Opens an object, and puts the members of a move's worth.
-#[tactic(auto, using(awari_table::proofs::Digits::three_digits, crate::proofs::WorthLines::twenty_digits))]
+#[tactic(auto, using(awari_streams::proofs::Digits::three_digits, crate::proofs::WorthLines::twenty_digits))]
 fn push_worth(text: &mut AnswerText, worth: MoveWorth)
     requires { array_vec_len text.old + 75 ≤ ANSWER_ROOM }
     ensures items { text.new.items ≡ text.old.items ++ worth_part worth }
@@ -185,7 +185,7 @@ fn push_worth(text: &mut AnswerText, worth: MoveWorth)
 }
 
 /// Puts the members of the replies to a move, if they are there.
-#[tactic(auto, using(awari_table::proofs::Digits::three_digits))]
+#[tactic(auto, using(awari_streams::proofs::Digits::three_digits))]
 fn push_replies(text: &mut AnswerText, replies: Option<Replies>)
     requires { array_vec_len text.old + 26 ≤ ANSWER_ROOM }
     ensures items { text.new.items ≡ text.old.items ++ replies_part replies }
@@ -268,7 +268,7 @@ fn signed_line(number: i16) -> TextLine
 }
 
 /// A pit, or `null` for none.
-#[tactic(auto, using(awari_table::proofs::Digits::three_digits))]
+#[tactic(auto, using(awari_streams::proofs::Digits::three_digits))]
 fn pit_line(pit: Option<u8>) -> TextLine
     ensures items { result.items ≡ pit_json pit }
     ensures len { array_vec_len result ≤ 4 }

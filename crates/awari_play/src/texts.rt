@@ -4,7 +4,7 @@ ghost use Rattle.std.specs.Prelude.{◌≡◌, ◌≤◌, ◌<◌, ◌+◌, ◌+
 ghost use Rattle.arrayvec.specs.ArrayVec.{array_vec_len};
 
 use arrayvec::ArrayVec;
-use awari_table::TextLine;
+use awari_streams::TextLine;
 
 /// Room, in bytes, for the text of any answer. The longest is the refusal, in JSON, of a line of 200
 /// bytes, each of which may take six.

@@ -135,7 +135,7 @@ fn push_move(text: &mut AnswerText, plan: Option<u8>, weighed: WeighedMove)
 }
 
 /// What is said of a move's worth.
-#[tactic(auto, using(awari_table::proofs::Digits::three_digits, crate::proofs::WorthLines::twenty_digits))]
+#[tactic(auto, using(awari_streams::proofs::Digits::three_digits, crate::proofs::WorthLines::twenty_digits))]
 fn worth_text(worth: MoveWorth) -> TextLine
     ensures items { result.items ≡ worth_text worth }
     ensures len { array_vec_len result ≤ 63 }
@@ -153,7 +153,7 @@ fn worth_text(worth: MoveWorth) -> TextLine
 }
 
 /// What is said of the replies to a move.
-#[tactic(auto, using(awari_table::proofs::Digits::three_digits))]
+#[tactic(auto, using(awari_streams::proofs::Digits::three_digits))]
 fn replies_mark(replies: Option<Replies>) -> TextLine
     ensures items { result.items ≡ replies_mark replies }
     ensures len { array_vec_len result ≤ 23 }

@@ -4,10 +4,8 @@ pub mod RunLemmas
 pub mod CertificateLemmas
 pub mod CountLemmas
 pub mod EntryLemmas
-pub mod Numbers
 pub mod LineLaws
 pub mod BlockLaws
 pub mod Loop
 pub mod TextLaws
-pub mod Digits
 pub mod Spelled

@@ -11,4 +11,3 @@ pub mod NotYet
 pub mod Place
 pub mod Reading
 pub mod Blocks
-pub mod Counted

@@ -2,8 +2,7 @@
 //!
 //! An [`Image`] holds entries that nobody has checked. A [`Level`] on a [`Shelf`] is consistent over
 //! the levels below it: the shelf's type says so, and [`Shelf::entry`] looks a board up in it.
-//! [`TableText`] reads levels from their text, and `write_shelf_text` writes it. [`Counted`] counts the
-//! faults of a reader or writer that is lent.
+//! [`TableText`] reads levels from their text, and `write_shelf_text` writes it.
 //!
 //! A game's next move by the plan of a shelf, in `crates/awari_example/src/main.rt`:
 //!
@@ -20,7 +19,6 @@
 
 mod blocks;
 mod columns;
-mod counted;
 mod faults;
 mod images;
 mod laws;
@@ -31,7 +29,7 @@ mod shelves;
 mod spelling;
 mod text;
 
-pub use counted::Counted;
+pub use awari_streams::{Counted, LINE_ROOM, TextLine, push_number, push_signed, push_text};
 pub use faults::TableFault;
 pub use images::{Counts, Entries, Entry, Image, greatest_dist};
 pub use laws::{
@@ -41,10 +39,7 @@ pub use laws::{
 pub use levels::Level;
 pub use rules::{Distances, Reached};
 pub use shelves::{NotYet, Shelf};
-pub use spelling::{
-    LINE_ROOM, TextLine, line_of_entry, push_number, push_signed, push_text, write_level_text,
-    write_shelf_text,
-};
+pub use spelling::{line_of_entry, write_level_text, write_shelf_text};
 pub use text::TableText;
 
 /// The highest level that a shelf may hold, in stones. What reads or writes tables goes by this

@@ -2,27 +2,20 @@
 
 ghost use Rattle.std.specs.Prelude.{◌≡◌, ◌≤◌, ◌+◌, ◌*◌, ◌++◌, All, length, take, drop, OnOk, OnErr};
 ghost use Rattle.awari_rank.specs.Rank.{size_of};
-ghost use Rattle.std.specs.Fmt.{decimal, signed_decimal};
 ghost use Rattle.std.specs.List.{flat_map};
 ghost use Rattle.std.specs.Io.KnownBytes.{Appends};
 ghost use Rattle.arrayvec.specs.ArrayVec.{array_vec_len};
-ghost use Rattle.awari_table.specs.Counted.{inner_of, faults_of, Grew};
+ghost use Rattle.awari_streams.specs.Counted.{inner_of, faults_of, Grew};
+ghost use Rattle.awari_streams.specs.declared.lines.TheConstants.{LINE_ROOM};
 ghost use Rattle.awari_table.specs.Spelling.{plan_text, entry_line, header_line, block, table_text, FitsNumbers, IsImage, AreImages};
 
-use crate::counted::Counted;
 use crate::images::Entry;
 use crate::levels::Level;
 use crate::shelves::Shelf;
 use arrayvec::ArrayVec;
 use awari_rank::size;
+use awari_streams::{Counted, TextLine, push_number, push_signed, push_text};
 use std::io::{self, Write};
-
-/// Room for a line, in bytes. The longest line of an entry or a header has 27 bytes with its line
-/// feed. Lines that other crates spell are longer.
-pub const LINE_ROOM: usize = 80;
-
-/// A line that is being spelled.
-pub type TextLine = ArrayVec<u8, LINE_ROOM>;
 
 /// How many entries are spelled before they are written.
 const BATCH: usize = 200;
@@ -30,49 +23,7 @@ const BATCH: usize = 200;
 /// Room for the lines of as many entries, of 23 bytes each.
 const BATCH_ROOM: usize = 4600;
 
-/// Puts the text at the end of the line. Condition: the line has room for it.
-pub fn push_text(line: &mut TextLine, text: &[u8])
-    requires { array_vec_len line.old + length text.now ≤ LINE_ROOM }
-    ensures items { line.new.items ≡ line.old.items ++ text.now }
-    ensures len { array_vec_len line.new ≡ array_vec_len line.old + length text.now }
-{
-    let Ok(()) = line.try_extend_from_slice(text) else {
-        unreachable!()
-    };
-}
-
-/// Puts the number in decimal at the end of the line. Condition: the line has room for it.
-#[tactic(auto, using(crate::proofs::Digits::one_digit, crate::proofs::Digits::more_digits))]
-pub fn push_number(line: &mut TextLine, number: u64)
-    requires { array_vec_len line.old + length (decimal number) ≤ LINE_ROOM }
-    ensures items { line.new.items ≡ line.old.items ++ decimal number }
-    ensures len { array_vec_len line.new ≡ array_vec_len line.old + length (decimal number) }
-{
-    if number < 10 {
-        line.push(b'0' + number as u8);
-        return;
-    }
-    push_number(line, number / 10);
-    line.push(b'0' + (number % 10) as u8);
-}
-
-/// Puts the number in decimal, with its sign, at the end of the line. Condition: the line has room
-/// for 6 bytes.
-#[tactic(auto, using(crate::proofs::Digits::five_digits))]
-pub fn push_signed(line: &mut TextLine, number: i16)
-    requires { array_vec_len line.old + 6 ≤ LINE_ROOM }
-    ensures items { line.new.items ≡ line.old.items ++ signed_decimal number }
-    ensures len { array_vec_len line.new ≤ array_vec_len line.old + 6 }
-{
-    if number >= 0 {
-        push_number(line, number as u64);
-        return;
-    }
-    line.push(b'-');
-    push_number(line, u64::from(number.unsigned_abs()));
-}
-
-#[tactic(auto, using(crate::proofs::Digits::three_digits))]
+#[tactic(auto, using(awari_streams::proofs::Digits::three_digits))]
 fn push_plan(line: &mut TextLine, plan: Option<u8>)
     requires { array_vec_len line.old + 3 ≤ LINE_ROOM }
     ensures items { line.new.items ≡ line.old.items ++ plan_text plan }
@@ -85,7 +36,7 @@ fn push_plan(line: &mut TextLine, plan: Option<u8>)
 }
 
 /// The line of an entry, with its line feed: value, plan and distance. It takes no memory.
-#[tactic(auto, using(crate::proofs::Digits::ten_digits))]
+#[tactic(auto, using(awari_streams::proofs::Digits::ten_digits))]
 pub fn line_of_entry(entry: Entry) -> TextLine
     ensures items { result.items ≡ entry_line entry }
     ensures len { array_vec_len result ≤ 23 }
@@ -101,7 +52,7 @@ pub fn line_of_entry(entry: Entry) -> TextLine
     line
 }
 
-#[tactic(auto, using(crate::proofs::Digits::three_digits, crate::proofs::Digits::ten_digits))]
+#[tactic(auto, using(awari_streams::proofs::Digits::three_digits, awari_streams::proofs::Digits::ten_digits))]
 fn line_of_header(level: u8, limit: u32) -> TextLine
     ensures { result.items ≡ header_line level limit }
 {

@@ -1,14 +1,14 @@
 //! A service that asks the files of a folder.
 
 ghost use Rattle.std.specs.Prelude.{OnOk};
-ghost use Rattle.awari_table.specs.Counted.{inner_of};
+ghost use Rattle.awari_streams.specs.Counted.{inner_of};
 ghost use Rattle.awari_unverified.specs.Held.{Keeps, stands_in};
 ghost use Rattle.awari_unverified.specs.Said.{IsServedSaid};
 
 use crate::files::Files;
 use awari_desk::{ServeFault, serve};
 use awari_folder::Folder;
-use awari_table::Counted;
+use awari_streams::Counted;
 use std::io::{Read, Write};
 
 /// Answers the requests of the input by the files.

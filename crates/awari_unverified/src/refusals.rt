@@ -12,7 +12,7 @@ ghost use Rattle.awari_verify.specs.VerifyFault.{fault_text as verify_fault_text
 use crate::unsaid::Unsaid;
 use awari_file::FileFault;
 use awari_folder::FolderFault;
-use awari_table::{TextLine, push_number, push_text};
+use awari_streams::{TextLine, numbered, numbered_line, push_number, push_text};
 use awari_verify::{Rule, VerifyFault};
 
 /// The line that tells of it, with its line feed.
@@ -48,29 +48,6 @@ fn line_of_memory() -> TextLine
     line
 }
 
-/// A text, and a number behind it.
-#[tactic(auto, using(awari_table::proofs::Digits::three_digits))]
-fn numbered(text: &[u8], number: u8) -> TextLine
-    requires { length text.now ≤ 30 }
-    ensures items { result.items ≡ text.now ++ decimal number }
-    ensures len { array_vec_len result ≤ 33 }
-{
-    let mut line = TextLine::new();
-    push_text(&mut line, text);
-    push_number(&mut line, u64::from(number));
-    line
-}
-
-/// The same as a line.
-fn numbered_line(text: &[u8], number: u8) -> TextLine
-    requires { length text.now ≤ 30 }
-    ensures { result.items ≡ text.now ++ decimal number ++ 10 ∷ [] }
-{
-    let mut line = numbered(text, number);
-    line.push(b'\n');
-    line
-}
-
 fn line_of_file(level: u8, fault: FileFault) -> TextLine
     ensures { result.items ≡ codes "refused 81 File level " ++ decimal level ++ codes ": " ++ file_fault_text fault ++ 10 ∷ [] }
 {
@@ -92,7 +69,7 @@ fn line_of_verify(level: u8, fault: VerifyFault) -> TextLine
 }
 
 /// A number, and a space behind it.
-#[tactic(auto, using(awari_table::proofs::Digits::three_digits))]
+#[tactic(auto, using(awari_streams::proofs::Digits::three_digits))]
 fn push_number_of(line: &mut TextLine, number: u8)
     requires { array_vec_len line.old ≤ 40 }
     ensures items { line.new.items ≡ line.old.items ++ (decimal number ++ codes " ") }
@@ -154,7 +131,7 @@ fn push_refused(line: &mut TextLine, rank: u32, rule: Rule)
     push_rule(line, rule);
 }
 
-#[tactic(auto, using(awari_table::proofs::Digits::ten_digits))]
+#[tactic(auto, using(awari_streams::proofs::Digits::ten_digits))]
 fn push_rank(line: &mut TextLine, rank: u32)
     requires { array_vec_len line.old ≤ 44 }
     ensures items { line.new.items ≡ line.old.items ++ (codes "Refused rank " ++ decimal rank) }

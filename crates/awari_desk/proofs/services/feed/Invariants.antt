@@ -1,5 +1,5 @@
 use Rattle.std.proofs.Common.{◌≡◌, ℕ, List, ◌++◌, Option, take}
-use Rattle.awari_table.specs.Counted.{inner_of, faults_of}
+use Rattle.awari_streams.specs.Counted.{inner_of, faults_of}
 use Rattle.awari_desk.specs.Coming.{Serving}
 use Rattle.awari_desk.proofs.services.feed.Given as goal
 

@@ -1,6 +1,6 @@
 use Rattle.std.proofs.Common.{◌≡◌, ℕ, List, ◌++◌, length}
 use Rattle.std.specs.Io.KnownBytes.{Appends}
-use Rattle.awari_table.specs.Counted.{inner_of, faults_of}
+use Rattle.awari_streams.specs.Counted.{inner_of, faults_of}
 use Rattle.awari_desk.proofs.services.put.Given as goal
 
 abbrev pub invariant-loop-rest : goal.invariant-loop-rest

@@ -1,6 +1,6 @@
 use Rattle.std.proofs.Common.{◌≡◌, ◌+◌, ℕ, List, length}
 use Rattle.std.specs.Io.KnownBytes.{Consumes}
-use Rattle.awari_table.specs.Counted.{inner_of, faults_of}
+use Rattle.awari_streams.specs.Counted.{inner_of, faults_of}
 use Rattle.awari_desk.specs.Coming.{Serving}
 use Rattle.awari_desk.specs.declared.services.TheConstants.{LONGEST_INPUT}
 use Rattle.awari_desk.proofs.services.serve.Given as goal

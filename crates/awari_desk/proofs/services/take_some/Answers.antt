@@ -1,6 +1,6 @@
 use Rattle.std.proofs.Common.{◌≡◌, ◌<◌, rules, arith, List, [], ℕ, length, take, inl, refl}
 use Rattle.std.proofs.lemmas.Result.{err_from_is_err_and}
-use Rattle.awari_table.specs.Counted.{inner_of}
+use Rattle.awari_streams.specs.Counted.{inner_of}
 use Rattle.awari_desk.specs.Service.{HasServed, HasBegun}
 use Rattle.awari_desk.proofs.Serves.{begun, begun_here, breaks_at_once, nothing_in, few_taken, quits_whole, breaks_whole, quits_in, breaks_in}
 use Rattle.awari_desk.proofs.services.take_some.Goals as goal

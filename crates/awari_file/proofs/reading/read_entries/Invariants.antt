@@ -1,5 +1,5 @@
 use Rattle.std.proofs.Common.{◌≡◌, ◌≤◌, ◌-◌, ◌++◌, List, ℕ, Ok}
-use Rattle.awari_table.specs.Counted.{inner_of, faults_of}
+use Rattle.awari_streams.specs.Counted.{inner_of, faults_of}
 use Rattle.awari_table.specs.declared.images.Entry.{Entry}
 use Rattle.awari_file.specs.declared.faults.FileFault.TheVariants.{Truncated}
 use Rattle.awari_file.specs.Reading.{entries_at}

@@ -2,7 +2,7 @@ use Rattle.std.proofs.Common.{arith, w8, ◌≡◌, ◌∙◌, ◌++◌, List, �
 use Rattle.std.specs.Io.KnownBytes.{Appends}
 use Rattle.std.proofs.KnownBytes.{Appends-trans}
 use Rattle.sha2.specs.Sha256.{sha256}
-use Rattle.awari_table.specs.Counted.{inner_of}
+use Rattle.awari_streams.specs.Counted.{inner_of}
 use Rattle.awari_file.specs.FileText.{header_text, body_text}
 use borrow.Author.Rules.{elem_Fits}
 use Rattle.awari_file.proofs.FitLaws.{has_file}

@@ -1,5 +1,5 @@
 use Rattle.std.proofs.Common.{subst, sym}
-use Rattle.awari_table.specs.Counted.{inner_of}
+use Rattle.awari_streams.specs.Counted.{inner_of}
 use Rattle.awari_levels.specs.Texts.{AppendsText}
 use Rattle.awari_levels.proofs.TextLaws.{one_text}
 use Rattle.awari_levels.proofs.texts.write_text.Goals as goal

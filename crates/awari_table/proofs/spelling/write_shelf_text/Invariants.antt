@@ -1,6 +1,6 @@
 use Rattle.std.proofs.Common.{◌≤◌, take}
 use Rattle.std.specs.Io.KnownBytes.{Appends}
-use Rattle.awari_table.specs.Counted.{inner_of, faults_of}
+use Rattle.awari_streams.specs.Counted.{inner_of, faults_of}
 use Rattle.awari_table.specs.Spelling.{table_text, AreImages}
 use Rattle.awari_table.proofs.spelling.write_shelf_text.Given as goal
 

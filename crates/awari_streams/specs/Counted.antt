@@ -1,6 +1,6 @@
 -- How many calls of a reader or a writer answered a fault.
 use Rattle.std.specs.Prelude.{ℕ, ◌+◌, ◌-◌, ◌^◌, ◌≤◌, min}
-use Rattle.awari_table.specs.declared.counted.Counted.{Counted}
+use Rattle.awari_streams.specs.declared.counted.Counted.{Counted}
 
 module _ {T : Type 0} where
   -- the reader or writer whose calls are counted

@@ -1,7 +1,7 @@
 use Rattle.std.proofs.Common.{◌+◌, ◌++◌, ◌∷◌, [], ◌/◌, ◌%◌, ap, sym, ◌∙◌, append_assoc, arith}
 use Rattle.std.specs.Fmt.{decimal}
-use Rattle.awari_table.proofs.Digits.{more_digits}
-use Rattle.awari_table.proofs.spelling.+push_number.Goals as goal
+use Rattle.awari_streams.proofs.Digits.{more_digits}
+use Rattle.awari_streams.proofs.lines.+push_number.Goals as goal
 
 pub returns-clause-items : goal.returns-clause-items
 returns-clause-items t c =

@@ -23,7 +23,7 @@ pub struct Counted<T> {
 }
 
 impl<T> Counted<T> {
-    ghost use Rattle.awari_table.specs.Counted.{inner_of, faults_of, one_more};
+    ghost use Rattle.awari_streams.specs.Counted.{inner_of, faults_of, one_more};
 
     /// Takes this reader or writer, with no fault counted yet.
     pub fn new(inner: T) -> Self
@@ -125,7 +125,7 @@ impl<W: Write> Call<W> for Flushing {
 }
 
 impl<T> Counted<T> {
-    ghost use Rattle.awari_table.specs.Counted.{inner_of, faults_of, one_more};
+    ghost use Rattle.awari_streams.specs.Counted.{inner_of, faults_of, one_more};
 
     /// Makes the call, and makes it again while it is interrupted, at most 1001 times in all. A fault
     /// is counted.
@@ -155,7 +155,7 @@ impl<T> Counted<T> {
 }
 
 impl<R: Read> Read for Counted<R> {
-    ghost use Rattle.awari_table.specs.Counted.{inner_of, faults_of, one_more};
+    ghost use Rattle.awari_streams.specs.Counted.{inner_of, faults_of, one_more};
 
     ghost remaining = { λ c. R.remaining (inner_of c) };
 
@@ -172,7 +172,7 @@ impl<R: Read> Read for Counted<R> {
 }
 
 impl<W: Write> Write for Counted<W> {
-    ghost use Rattle.awari_table.specs.Counted.{inner_of, faults_of, one_more};
+    ghost use Rattle.awari_streams.specs.Counted.{inner_of, faults_of, one_more};
 
     ghost contents = { λ c. W.contents (inner_of c) };
 

@@ -1,4 +1,4 @@
-use Rattle.awari_table.proofs.spelling.+push_number.Given as goal
+use Rattle.awari_streams.proofs.lines.+push_number.Given as goal
 
 abbrev pub decreases-push_number : goal.decreases-push_number
 decreases-push_number l = l.number
