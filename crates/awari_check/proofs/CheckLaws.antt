@@ -22,7 +22,7 @@ use Rattle.awari_check.specs.declared.checks.CheckFault.{CheckFault}
 use Rattle.awari_check.specs.declared.checks.CheckFault.TheVariants.{Table, Verify}
 use Rattle.awari_check.specs.CheckFault.{IsShelfText, IsLevelFault, IsCheckFault}
 use Rattle.awari_check.specs.Stops.{Stops}
-use Rattle.awari_table.specs.declared.rules.Distances.TheVariants.{Least}
+use Rattle.awari_table.specs.Certificate.{DistancesAreLeast}
 use Rattle.awari_verify.proofs.FaultLemmas.{inconsistent_from_fault, one_due}
 
 -- ---- how far a check has come
@@ -118,7 +118,7 @@ no_level_fault : (shelf : List Image) (rest : List ℕ) (top : Image) (after : L
 no_level_fault shelf rest top after (Table fault) fits right e other due = due_image (length shelf) (1 + line_count shelf) top after rest fault (λ h. other (ap (λ (f : TableFault). Table f) h)) fits e due
 no_level_fault shelf rest top after (Verify level fault) fits right e other due =
     let same = same_head (length shelf) due.1 top due.2 after due.3 fits (sym due.4 ∙ e) in
-    inconsistent_from_fault Least shelf top fault (subst (λ (i : Image). IsDue shelf i fault) same.0 due.5) right
+    inconsistent_from_fault DistancesAreLeast shelf top fault (subst (λ (i : Image). IsDue shelf i fault) same.0 due.5) right
 
 not_longer : (text : List ℕ) (long : List Image) (rest : List ℕ) (fault : CheckFault) → (f : IsCheckFault text fault) → fault ≢ Table Memory → AreImages 0 long → IsShelf long → IsLonger f.images long f.rest rest → ⊥
 not_longer text long rest fault f other fits shelf l =
@@ -135,7 +135,7 @@ one_level_fault shelf rest (Verify a f) (Table g) m n x y = absurd (due_image (l
 one_level_fault shelf rest (Verify a f) (Verify b g) m n x y =
     let same = same_head (length shelf) x.1 y.1 x.2 y.2 x.3 y.3 (sym x.4 ∙ y.4) in
     let level : a ≡ b = x.0 ∙ sym y.0 in
-    let fault : f ≡ g = one_due Least shelf y.1 f g (subst (λ (i : Image). IsDue shelf i f) same.0 x.5) y.5 in
+    let fault : f ≡ g = one_due DistancesAreLeast shelf y.1 f g (subst (λ (i : Image). IsDue shelf i f) same.0 x.5) y.5 in
     cc
 
 pub one_check_fault : (text : List ℕ) (f g : CheckFault) → f ≢ Table Memory → g ≢ Table Memory → IsCheckFault text f → IsCheckFault text g → f ≡ g

@@ -6,7 +6,6 @@ use native.Mathlib.Numerals.{unary_clauses}
 use Rattle.awari_table.specs.declared.TheConstants.{HIGHEST_LEVEL}
 use Rattle.awari_table.specs.declared.images.Image.{Image}
 use Rattle.awari_table.specs.Shelves.{Consistent}
-use Rattle.awari_verify.specs.VerifyFault.{IsDueBy}
 use Rattle.awari_verify.specs.declared.verdicts.VerifyFault.{VerifyFault}
 use Rattle.awari_file.specs.declared.contents.Loaded.{Loaded}
 use Rattle.awari_file.specs.FileText.{IsFileOf, file_text}
@@ -19,7 +18,7 @@ use Rattle.awari_folder.specs.declared.loading.Stored.{Stored}
 use Rattle.awari_folder.specs.declared.migrating.Limits.{Limits}
 use Rattle.awari_folder.specs.Contents.{Same, SameBut, LeavesToo, Lacks, OpenIfRefused, OpenIfEither, Refusals, Refuses, TellsRefusal, AreNames, HoldsIn}
 use Rattle.awari_folder.specs.State.{IsOwnIfFree}
-use Rattle.awari_folder.specs.Migration.{rules_of, IsMigratedFile, MigrateLevels, CanMigrate, IsMigrationFault, IsStoreFault, IsFoundIn, IsMigrated, IsFirstMigrationFault, LeavesWhole}
+use Rattle.awari_folder.specs.Migration.{IsDueIn, IsMigratedFile, MigrateLevels, CanMigrate, IsMigrationFault, IsStoreFault, IsFoundIn, IsMigrated, IsFirstMigrationFault, LeavesWhole}
 
 -- ---- a file that is opened
 
@@ -108,7 +107,7 @@ pub over_another : (bytes : List ℕ) (shelf : List Image) (below : List ℕ) (o
 over_another bytes shelf below other level loaded is found another = (is, (loaded.version, record { loaded = loaded; file = found; of_version = refl; another = another }))
 
 pub wrong_level : (bytes : List ℕ) (shelf : List Image) (below : List ℕ) (other : Option (List ℕ)) (level : ℕ) (loaded : Loaded) (fault : VerifyFault) → level ≡ length shelf
-    → IsFileOf bytes loaded → loaded.below ≡ below → IsDueBy (rules_of loaded.version) shelf loaded.image fault
+    → IsFileOf bytes loaded → loaded.below ≡ below → IsDueIn loaded.version shelf loaded.image fault
     → IsMigrationFault shelf below (Some bytes) other (Verify level fault)
 wrong_level bytes shelf below other level loaded fault is found over due = (is, (loaded.version, record { loaded = loaded; file = found; of_version = refl; over = over; wrong = due }))
 

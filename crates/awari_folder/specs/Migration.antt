@@ -1,12 +1,13 @@
 -- The levels of one folder brought over to another.
-use Rattle.std.specs.Prelude.{◌≡◌, ◌<◌, ◌≤◌, ◌⊎◌, ◌==◌, if◌then◌else◌, ⊤, ℕ, zero, suc, List, [], ◌∷◌, ◌++◌, length, replicate, Option, Some, None, IsSome, IsSomeAnd, Result, Ok, Err}
+use Rattle.std.specs.Prelude.{◌≡◌, ◌≢◌, ◌<◌, ◌≤◌, ◌⊎◌, ⊤, ℕ, zero, suc, List, [], ◌∷◌, ◌++◌, length, replicate, Option, Some, None, IsSome, IsSomeAnd, Result, Ok, Err}
 use Rattle.awari_table.specs.declared.TheConstants.{HIGHEST_LEVEL}
 use Rattle.awari_table.specs.declared.images.Image.{Image}
-use Rattle.awari_table.specs.declared.rules.Distances.{Distances}
-use Rattle.awari_table.specs.declared.rules.Distances.TheVariants.{Falling, Least}
-use Rattle.awari_table.specs.Shelves.{Consistent, ConsistentBy}
+use Rattle.awari_table.specs.Shelves.{Consistent}
+use Rattle.awari_theory.specs.Older.{ConsistentOld}
 use Rattle.awari_play.specs.Least.{NoFarther, IsPlannedLowest}
-use Rattle.awari_verify.specs.VerifyFault.{IsDueBy}
+use Rattle.awari_verify.specs.Older.{IsDueOld}
+use Rattle.awari_verify.specs.VerifyFault.{IsDue}
+use Rattle.awari_verify.specs.declared.verdicts.VerifyFault.{VerifyFault}
 use Rattle.awari_file.specs.declared.contents.Loaded.{Loaded}
 use Rattle.awari_file.specs.declared.faults.FileFault.{FileFault}
 use Rattle.awari_file.specs.declared.faults.FileFault.TheVariants.{Write}
@@ -20,18 +21,18 @@ use Rattle.awari_folder.specs.declared.migrating.MigratedLevel.{MigratedLevel}
 use Rattle.awari_folder.specs.NextFile.{IsOverAnother, IsWrong}
 use Rattle.awari_folder.specs.Contents.{HoldsIn}
 
--- the rules that the tables of a version go by
-abbrev pub rules_of : ℕ → Distances
-rules_of version = if version == 1 then Falling else Least
+-- the fault of an image by the rules of its version
+abbrev pub IsDueIn : ℕ → List Image → Image → VerifyFault → Type 0
+IsDueIn version shelf image fault = ((version ≡ 1) × IsDueOld shelf image fault) ⊎ ((version ≢ 1) × IsDue shelf image fault)
 
 -- What the image of a file becomes over the shelf, if it is right by the rules of its version. In version 1 the values stay, and
 -- distances and plans become the least and the lowest; in version 2 all stays.
 pub record IsMigratedImage (version : ℕ) (shelf : List Image) (old new : Image) : Type 0 where
-  pub was : ConsistentBy (rules_of version) shelf old
+  pub was : version ≡ 1 → ConsistentOld shelf old
   pub right : Consistent shelf new
   pub nearer : version ≡ 1 → NoFarther old.entries new.entries
   pub planned : version ≡ 1 → IsPlannedLowest shelf new
-  pub same : version ≡ 2 → new ≡ old
+  pub same : version ≢ 1 → new ≡ old
 
 -- The bytes are a file over the one that ends in `below`. They end in `digest`, and over the shelf their image becomes `image`.
 pub record IsMigratedFile (shelf : List Image) (below bytes : List ℕ) (image : Image) (digest : List ℕ) (limits : Limits) : Type 0 where
@@ -81,7 +82,7 @@ IsMigrationFault shelf below name other (File level fault) =
     (level ≡ length shelf) × (IsSomeAnd name (λ bytes. Fails fault (file_in bytes)) ⊎ (IsSomeAnd name (CanMigrate shelf below) × (other ≡ None) × (fault ≡ Write)))
 IsMigrationFault shelf below name other (Open level) = level ≡ length shelf
 IsMigrationFault shelf below name other (Verify level fault) =
-    (level ≡ length shelf) × IsSomeAnd name (λ bytes. (version : ℕ) × IsWrong version below bytes (λ image. IsDueBy (rules_of version) shelf image fault))
+    (level ≡ length shelf) × IsSomeAnd name (λ bytes. (version : ℕ) × IsWrong version below bytes (λ image. IsDueIn version shelf image fault))
 IsMigrationFault shelf below name other Memory = ⊤
 IsMigrationFault shelf below name other (Occupied level) = (level ≡ length shelf) × IsSomeAnd name (CanMigrate shelf below) × IsSome other
 IsMigrationFault shelf below name other (Old level) = ⊥
@@ -133,7 +134,7 @@ abbrev pub IsMigratedOf : List Image → List ℕ → Result Loaded FileFault �
 IsMigratedOf shelf below (Err e) (File level fault) = fault ≡ e
 IsMigratedOf shelf below (Err e) Memory = e ≡ file.Memory
 IsMigratedOf shelf below (Err e) fault = ⊥
-IsMigratedOf shelf below (Ok loaded) Memory = (loaded.below ≡ below) × (loaded.version ≡ 1) × ConsistentBy (rules_of loaded.version) shelf loaded.image
+IsMigratedOf shelf below (Ok loaded) Memory = (loaded.below ≡ below) × (loaded.version ≡ 1) × ConsistentOld shelf loaded.image
 IsMigratedOf shelf below (Ok loaded) (File level fault) = ⊥
 IsMigratedOf shelf below (Ok loaded) (Open level) = ⊥
 IsMigratedOf shelf below (Ok loaded) fault = ⊤

@@ -4,15 +4,15 @@ ghost use Rattle.std.specs.Prelude.{◌≡◌, ◌≤◌, ℕ, List, Option, Som
 ghost use Rattle.awari_table.specs.declared.TheConstants.{HIGHEST_LEVEL};
 ghost use Rattle.awari_table.specs.declared.images.Image.{Image};
 ghost use Rattle.awari_streams.specs.Counted.{faults_of, inner_of};
-ghost use Rattle.awari_table.specs.Shelves.{Consistent, ConsistentBy};
+ghost use Rattle.awari_table.specs.Shelves.{Consistent};
+ghost use Rattle.awari_theory.specs.Older.{ConsistentOld};
 ghost use Rattle.awari_file.specs.FileText.{body_text};
-ghost use Rattle.awari_verify.specs.VerifyFault.{IsDueBy};
 ghost use Rattle.awari_folder.specs.FolderFault.{Names, NamesLevel};
 ghost use Rattle.awari_folder.specs.Contents.{Same, LeavesStill, IsOfFile, OpenIfEither, AreNames, TellsRefusal};
 ghost use Rattle.awari_folder.specs.Verifying.{TellsReader};
 ghost use Rattle.awari_folder.specs.State.{IsOwnIfFree, Leaves, OnlyReads, Saves, Unchanged};
 ghost use Rattle.sha2.specs.Sha256.{sha256};
-ghost use Rattle.awari_folder.specs.Migration.{rules_of, IsMigratedImage, IsMigratedFile, IsNextMigrated, IsMigrationFault, IsMigrated, IsFirstMigrationFault, IsStoreFault, IsFoundIn, IsMigratedOf, LeavesWhole, KeepsFiles};
+ghost use Rattle.awari_folder.specs.Migration.{IsDueIn, IsMigratedImage, IsMigratedFile, IsNextMigrated, IsMigrationFault, IsMigrated, IsFirstMigrationFault, IsStoreFault, IsFoundIn, IsMigratedOf, LeavesWhole, KeepsFiles};
 
 use crate::calls::{Folder, Refusal};
 use crate::faults::FolderFault;
@@ -206,8 +206,8 @@ fn migrated_over(
     image: Image,
 ) -> Result<Result<Level, VerifyFault>, AllocError>
     ensures ok { IfOk result (λ judged. IfOk judged (IsMigratedImage version shelf.now image)) }
-    ensures fault { IfOk result (λ judged. IfErr judged (IsDueBy (rules_of version) shelf.now image)) }
-    ensures memory { OnErr result ((version ≡ 1) × ConsistentBy (rules_of version) shelf.now image) }
+    ensures fault { IfOk result (λ judged. IfErr judged (IsDueIn version shelf.now image)) }
+    ensures memory { OnErr result ((version ≡ 1) × ConsistentOld shelf.now image) }
 {
     if version != OLD_VERSION {
         return Ok(verify(shelf, image));

@@ -160,7 +160,7 @@ fn push_end(batch: &mut Batch, form: Form)
 }
 
 /// The line of a board and its entry, with spaces.
-#[tactic(auto, unfolding(crate::specs::Listing::stem_of), using(awari_streams::proofs::Digits::ten_digits, awari_table::proofs::Digits::three_digits))]
+#[tactic(auto, unfolding(crate::specs::Listing::stem_of), using(awari_streams::proofs::Digits::ten_digits, awari_streams::proofs::Digits::three_digits))]
 fn text_stem(board: &Board, entry: Entry) -> TextLine
     ensures { result.items ≡ stem_of Text board.now entry }
 {
@@ -179,7 +179,7 @@ fn text_stem(board: &Board, entry: Entry) -> TextLine
 }
 
 /// The line of a board and its entry, with commas.
-#[tactic(auto, unfolding(crate::specs::Listing::stem_of), using(awari_streams::proofs::Digits::ten_digits, awari_table::proofs::Digits::three_digits))]
+#[tactic(auto, unfolding(crate::specs::Listing::stem_of), using(awari_streams::proofs::Digits::ten_digits, awari_streams::proofs::Digits::three_digits))]
 fn csv_stem(board: &Board, entry: Entry) -> TextLine
     ensures { result.items ≡ stem_of Csv board.now entry }
 {

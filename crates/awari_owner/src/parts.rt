@@ -27,7 +27,7 @@ use awari_board::{SIDE, moves_keep_boards};
 use awari_index::Index;
 use awari_rank::{ranks_tell_boards_apart, size};
 use awari_scan::{scanned_cells, scanned_cells_parallel};
-use awari_table::{Shelf, shelves_are_certificates};
+use awari_table::{Shelf, boards_are_right};
 use std::alloc::{AllocError, Global};
 use std::marker::Model;
 use std::thread::Threads;
@@ -95,7 +95,7 @@ impl Part {
         ensures whole { owners ≡ 1 → IfOk result IsWhole }
         ensures memory { IfErr result (λ fault. fault ≡ OwnerFault.Memory) }
     {
-        shelves_are_certificates();
+        boards_are_right();
         let level = shelf.levels();
         let block = Block::of(level, owners, owner);
         let index = Index::of(alloc, level)?;

@@ -11,8 +11,7 @@ use Rattle.awari_table.specs.declared.images.Image.{Image}
 use Rattle.awari_board.specs.Rules.{IsBoard, IsLegal, next_board}
 use Rattle.awari_game.specs.Plays.{IsPlay, Standing, after, start}
 use Rattle.awari_game.specs.Shown.{Shows}
-use Rattle.awari_table.specs.Certificate.{Table, IsRightBy, MovesNoLater}
-use Rattle.awari_table.specs.declared.rules.Distances.TheVariants.{Least}
+use Rattle.awari_table.specs.Certificate.{Table, IsRight, MovesNoLater}
 use Rattle.awari_theory.proofs.Moves.{stones_kept, move_of}
 use Rattle.awari_folder.specs.declared.faults.FolderFault.{FolderFault}
 use Rattle.awari_play.specs.LongestLine.{HoldsLongest}
@@ -37,7 +36,7 @@ known_start levels board seen shows low =
     subst (λ b. sum b < levels) (sym there) low
 
 -- the pit of what was seen is due
-pub due_at : (t : Table) (p : List ℕ) (seen : Seen) (pit : Option ℕ) (r : Result ℕ FolderFault) → Sees t p seen → IsRightBy Least t p → (pos 0 <ℤ seen.entry.value → pit ≡ seen.entry.plan)
+pub due_at : (t : Table) (p : List ℕ) (seen : Seen) (pit : Option ℕ) (r : Result ℕ FolderFault) → Sees t p seen → IsRight t p → (pos 0 <ℤ seen.entry.value → pit ≡ seen.entry.plan)
     → (seen.entry.value <ℤ pos 0 → (t : Table) (p : List ℕ) → Sees t p seen → MovesNoLater t p seen.entry.dist → IfSome pit (HoldsLongest t p)) → IfOk r (λ x. pit ≡ Some x) → IfOk r (IsDueAt t p)
 due_at t p seen pit (Err fault) sees right favoured other is = tt
 due_at t p seen pit (Ok x) sees right favoured other is = record {

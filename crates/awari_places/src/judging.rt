@@ -2,7 +2,7 @@
 
 ghost use Rattle.std.specs.Prelude.{◌≡◌, ◌<◌, ◌≤◌, ◌+◌, ℕ, List, None, IfOk, length, slice_index_or, sum};
 ghost use Rattle.awari_folder.specs.State.{Unchanged};
-ghost use Rattle.awari_table.specs.Certificate.{IsRightBy};
+ghost use Rattle.awari_table.specs.Certificate.{IsRight};
 ghost use Rattle.awari_table.specs.Images.{table_of};
 ghost use Rattle.awari_table.specs.Reached.{Reaches};
 ghost use Rattle.awari_table.specs.declared.TheConstants.{HIGHEST_LEVEL};
@@ -15,7 +15,7 @@ use crate::worths::reached;
 use awari_board::{Board, SIDE};
 use awari_folder::{Folder, FolderFault};
 use awari_rank::rank;
-use awari_table::{Distances, Reached};
+use awari_table::Reached;
 use awari_verify::{Rule, Seen, VerifyFault, first_broken_rule};
 
 /// What the files say of a board and of its moves. It is refused as 83 if the board breaks a rule by
@@ -28,11 +28,11 @@ pub(crate) fn judged<F: Folder>(
     requires low { levels ≤ HIGHEST_LEVEL + 1 }
     requires known { sum board.now < levels }
     ensures sees { (images : List Image) → Says (F.state folder.old).stands levels images → IfOk result (Sees (table_of images) board.now) }
-    ensures right { (images : List Image) → Says (F.state folder.old).stands levels images → IfOk result (λ _. IsRightBy Distances.Least (table_of images) board.now) }
+    ensures right { (images : List Image) → Says (F.state folder.old).stands levels images → IfOk result (λ _. IsRight (table_of images) board.now) }
     ensures same { Unchanged (F.state folder.old) (F.state folder.new) }
 {
     match see(folder, levels, board) {
-        Ok(seen) => match first_broken_rule(Distances::Least, &seen) {
+        Ok(seen) => match first_broken_rule(&seen) {
             None => Ok(seen),
             Some(rule) => Err(broken(board, rule)),
         },

@@ -7,7 +7,7 @@ ghost use Rattle.awari_game.specs.Plays.{IsPlay, Standing, start};
 ghost use Rattle.awari_game.specs.Shown.{Shows};
 ghost use Rattle.awari_play.specs.Holding.{TakesPlies};
 ghost use Rattle.awari_play.specs.LongestLine.{HoldsLongest, IsLongestLine};
-ghost use Rattle.awari_table.specs.Certificate.{IsRightBy, MovesNoLater, Table};
+ghost use Rattle.awari_table.specs.Certificate.{IsRight, MovesNoLater, Table};
 ghost use Rattle.awari_table.specs.Images.{table_of};
 ghost use Rattle.awari_table.specs.Reached.{Reaches};
 ghost use Rattle.awari_table.specs.declared.TheConstants.{HIGHEST_LEVEL};
@@ -22,7 +22,7 @@ use awari_board::{Board, SIDE};
 use awari_folder::{Folder, FolderFault};
 use awari_game::Game;
 use awari_play::play_pit;
-use awari_table::{Distances, Reached};
+use awari_table::Reached;
 use awari_verify::Seen;
 use std::alloc::Global;
 
@@ -62,7 +62,7 @@ fn hold_out<F: Folder>(
     requires low { levels ≤ HIGHEST_LEVEL + 1 }
     requires board { IsBoard board }
     requires known { sum board < levels }
-    requires judged { (images : List Image) → Says (F.state folder.old).stands levels images → IsRightBy Distances.Least (table_of images) board × (dist ≡ (table_of images).dist board) }
+    requires judged { (images : List Image) → Says (F.state folder.old).stands levels images → IsRight (table_of images) board × (dist ≡ (table_of images).dist board) }
     ensures line { (images : List Image) → Says (F.state folder.old).stands levels images → IfOk result (λ moves. IsLongestLine (table_of images) board moves.items) }
     ensures play { IfOk result (λ moves. (last : Standing) × IsPlay (start board) moves.items last) }
     ensures same { Unchanged (F.state folder.old) (F.state folder.new) }

@@ -6,7 +6,7 @@ use Rattle.awari_table.specs.declared.images.Image.{Image}
 use Rattle.awari_table.specs.declared.images.Entry.{Entry}
 use Rattle.awari_table.specs.Images.{table_of}
 use Rattle.awari_table.specs.Shelves.{Consistent, IsShelf}
-use Rattle.awari_table.proofs.CertificateLemmas.{IsCertificate-shelf}
+use Rattle.awari_table.proofs.CertificateLemmas.{right_from_shelf}
 use Rattle.awari_block.specs.Part.{Part, IsClosed, cell_at}
 use Rattle.awari_heard.specs.Level.{AreHeard, AreWhole, known_at}
 use Rattle.awari_heard.proofs.Levels.{parts_right}
@@ -38,9 +38,8 @@ settled_alike (part ∷ parts) old now same has = (
 pub finished_consistent : (shelf : List Image) (parts : List Part) (image : Image) → IsShelf shelf → length shelf ≤ HIGHEST_LEVEL
     → AreWhole (length shelf) parts → All IsClosed parts → AreHeard (table_of shelf).value parts → IsFinished shelf parts image → Consistent shelf image
 finished_consistent shelf parts image on_shelf low whole closed heard finished =
-    let cert = IsCertificate-shelf shelf on_shelf in
     consistent shelf (λ q. known_at parts (rank_of q)) parts image
-    (λ q is few. let range = (cert.right q is few).in_range in (range.0, range.1))
+    (λ q is few. let range = (right_from_shelf shelf on_shelf q is few).in_range in (range.0, range.1))
     (λ p is stones. parts_right _ parts whole (table_of shelf).value closed heard p is stones)
     (λ p is stones. level_has HasSettled _ parts whole image.entries finished.settled p is stones)
     finished low

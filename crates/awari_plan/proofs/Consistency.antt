@@ -11,8 +11,7 @@ use Rattle.awari_rank.specs.Rank.{rank_of, size_of}
 use Rattle.awari_table.specs.declared.TheConstants.{HIGHEST_LEVEL}
 use Rattle.awari_table.specs.declared.images.Entry.{Entry}
 use Rattle.awari_table.specs.declared.images.Image.{Image}
-use Rattle.awari_table.specs.Certificate.{Table, plies, IsRightBy, DistancesAreLeast}
-use Rattle.awari_table.specs.declared.rules.Distances.TheVariants.{Least}
+use Rattle.awari_table.specs.Certificate.{Table, plies, IsRight, DistancesAreLeast}
 use Rattle.awari_table.proofs.CertificateLemmas.{plies_taken}
 use Rattle.awari_table.specs.Images.{table_of, no_entry}
 use Rattle.awari_table.specs.Shelves.{Consistent}
@@ -184,7 +183,7 @@ module _ (shelf : List Image) (cell : List ℕ → Cell) (parts : List Part) (im
   within zero p is stones near = absurd (omega (arith, near))
   within (suc k) p is stones near = within_next k (within k) p is stones near
 
-  rules : (p : List ℕ) → IsBoard p → sum p ≡ length shelf → IsRightBy Least table p
+  rules : (p : List ℕ) → IsBoard p → sum p ≡ length shelf → IsRight table p
   rules p is stones =
       let here = has p is stones in
       let r = right p is stones in

@@ -9,7 +9,7 @@ use Rattle.awari_table.specs.declared.images.Image.{Image}
 use Rattle.awari_table.specs.Certificate.{Table}
 use Rattle.awari_table.specs.Images.{entry_of, table_of, greatest_limit}
 use Rattle.awari_table.specs.Shelves.{IsShelf}
-use Rattle.awari_table.proofs.CertificateLemmas.{IsCertificate-shelf}
+use Rattle.awari_table.proofs.CertificateLemmas.{right_from_shelf}
 use Rattle.awari_theory.specs.Secures.{Secures}
 use Rattle.awari_theory.specs.Truth.{TellsTruth}
 use Rattle.awari_theory.proofs.Comes.{same_number}
@@ -64,7 +64,7 @@ no_sooner-more limit board moves x seen shows none before n s o below play out =
 -- a board that is not ended has a plan, which is legal
 pub planned : (levels : List Image) (p : List ℕ) → IsShelf levels → IsBoard p → sum p < length levels → (pit : ℕ) × IsLegal p pit
     → (x : ℕ) × ((table_of levels).plan p ≡ Some x) × IsLegal p x
-planned levels p shelf board low open_pit = ((IsCertificate-shelf levels shelf).right p board low).has_plan (λ ended. ended open_pit.0 open_pit.1)
+planned levels p shelf board low open_pit = (right_from_shelf levels shelf p board low).has_plan (λ ended. ended open_pit.0 open_pit.1)
 
 -- what is seen after a pit more
 pub seen_after : (seen later : Standing) (board moves : List ℕ) (x : ℕ) → Shows seen board moves → Shows later board (moves ++ x ∷ [])

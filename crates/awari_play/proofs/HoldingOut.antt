@@ -8,11 +8,11 @@ use Rattle.std.proofs.lemmas.List.{take-append-le, take_all}
 use Rattle.awari_board.specs.Rules.{IsBoard, IsEnd, IsEnded, IsLegal, IsMove, captured, next_board}
 use Rattle.awari_game.specs.Plays.{Standing, start, after, IsPlay, Follows}
 use Rattle.awari_game.specs.Shown.{Shows}
-use Rattle.awari_table.specs.Certificate.{Table, plies, MovesIn, MovesNoLater, IsRightBy}
-use Rattle.awari_table.specs.declared.rules.Distances.TheVariants.{Least}
+use Rattle.awari_table.specs.Certificate.{Table, plies, MovesIn, MovesNoLater, IsRight}
 use Rattle.awari_table.specs.declared.rules.Reached.{Reached}
 use Rattle.awari_table.specs.Reached.{Reaches}
-use Rattle.awari_table.proofs.CertificateLemmas.{DistancesFall-least, plies_cases}
+use Rattle.awari_table.proofs.CertificateLemmas.{plies_cases}
+use Rattle.awari_theory.proofs.OlderLemmas.{DistancesFall-least}
 use Rattle.awari_theory.proofs.Moves.{stones_kept, next_is_board, move_of}
 use Rattle.awari_theory.proofs.Sides.{quiet_more, quiet_none}
 use Rattle.awari_play.proofs.Following.{follows_more, one_more, one_standing}
@@ -77,16 +77,16 @@ one_takes t p k x (y, c, q, move, is) before all = before.none y (let own = move
 
 -- ---- a board whose distance is not 0
 
-pub far_open : (t : Table) (p : List ℕ) → IsRightBy Least t p → 1 ≤ t.dist p → IsEnded p → ⊥
+pub far_open : (t : Table) (p : List ℕ) → IsRight t p → 1 ≤ t.dist p → IsEnded p → ⊥
 far_open t p r far stuck = let end : IsEnd p _ = record { stuck = stuck; gains = refl } in omega (arith, (r.ends _ end).2, far)
 
-pub far_legal : (t : Table) (p : List ℕ) → IsRightBy Least t p → 1 ≤ t.dist p → (x : ℕ) × IsLegal p x
+pub far_legal : (t : Table) (p : List ℕ) → IsRight t p → 1 ≤ t.dist p → (x : ℕ) × IsLegal p x
 far_legal t p r far = let (x, plan, legal) = r.has_plan (far_open t p r far) in (x, legal)
 
 even_or_lost : (v : ℤ) → (pos 0 <ℤ v → ⊥) → (v <ℤ pos 0) ⊎ (v ≡ pos 0)
 even_or_lost v low = grind (arith, ints)
 
-pub far_lost : (t : Table) (p : List ℕ) → IsRightBy Least t p → 1 ≤ t.dist p → (pos 0 <ℤ t.value p → ⊥) → (t.value p <ℤ pos 0) × MovesIn t p (t.dist p) × MovesNoLater t p (t.dist p)
+pub far_lost : (t : Table) (p : List ℕ) → IsRight t p → 1 ≤ t.dist p → (pos 0 <ℤ t.value p → ⊥) → (t.value p <ℤ pos 0) × MovesIn t p (t.dist p) × MovesNoLater t p (t.dist p)
 far_lost t p r far low = elim (even_or_lost (t.value p) low) [
   | inl down ↦ (let both = r.distances.lost (far_open t p r far) down in (down, both.0, both.1))
   | inr even ↦ absurd (omega (arith, r.distances.even even, far))
@@ -107,7 +107,7 @@ pub record IsDuePit (t : Table) (p : List ℕ) (x : ℕ) : Type 0 where
   pub other : t.value p <ℤ pos 0 → HoldsLongest t p x
 
 -- the plan of a won board takes as many plies as the distance
-won_plies : (t : Table) (p : List ℕ) (x c : ℕ) (q : List ℕ) → IsRightBy Least t p → 1 ≤ t.dist p → pos 0 <ℤ t.value p → t.plan p ≡ Some x → IsMove p x c q → plies c (t.dist q) ≡ t.dist p
+won_plies : (t : Table) (p : List ℕ) (x c : ℕ) (q : List ℕ) → IsRight t p → 1 ≤ t.dist p → pos 0 <ℤ t.value p → t.plan p ≡ Some x → IsMove p x c q → plies c (t.dist q) ≡ t.dist p
 won_plies t p x c q r far up plan move =
     let soonest = (r.distances.won (far_open t p r far) up).1 x c q move (r.plan_gains x c q plan move) in
     elim (plies_cases c (t.dist q)) [
@@ -119,7 +119,7 @@ won_plies t p x c q r far up plan move =
     ]
 
 -- and so does the pit of a lost board that holds out longest
-lost_plies : (t : Table) (p : List ℕ) (x c : ℕ) (q : List ℕ) → IsRightBy Least t p → 1 ≤ t.dist p → t.value p <ℤ pos 0 → HoldsLongest t p x → IsMove p x c q → plies c (t.dist q) ≡ t.dist p
+lost_plies : (t : Table) (p : List ℕ) (x c : ℕ) (q : List ℕ) → IsRight t p → 1 ≤ t.dist p → t.value p <ℤ pos 0 → HoldsLongest t p x → IsMove p x c q → plies c (t.dist q) ≡ t.dist p
 lost_plies t p x c q r far down holds move =
     let both = r.distances.lost (far_open t p r far) down in
     let (y, d, s, other, is) = both.0 in
@@ -135,7 +135,7 @@ pub record IsGood (t : Table) (first : Bool) (s : Standing) : Type 0 where
   pub won : s.first_moves ≡ first → pos 0 <ℤ t.value s.board
   pub lost : s.first_moves ≡ not first → t.value s.board <ℤ pos 0
 
-due_plies : (t : Table) (p : List ℕ) (x c : ℕ) (q : List ℕ) → IsRightBy Least t p → 1 ≤ t.dist p → IsDuePit t p x → IsMove p x c q → plies c (t.dist q) ≡ t.dist p
+due_plies : (t : Table) (p : List ℕ) (x c : ℕ) (q : List ℕ) → IsRight t p → 1 ≤ t.dist p → IsDuePit t p x → IsMove p x c q → plies c (t.dist q) ≡ t.dist p
 due_plies t p x c q r far due move = elim (cases_sign (t.value p)) [
   | inl up ↦ won_plies t p x c q r far up (due.favoured up) move
   | inr low ↦ let down = (far_lost t p r far low).0 in lost_plies t p x c q r far down (due.other down) move
@@ -156,7 +156,7 @@ turn_lost true false e = sym e
 turn_lost false true e = sym e
 turn_lost false false e = refl
 
-good_next : (t : Table) (first : Bool) (s : Standing) (x : ℕ) → IsRightBy Least t s.board → IsDuePit t s.board x → captured s.board x ≡ 0 → IsGood t first s → IsGood t first (after s x)
+good_next : (t : Table) (first : Bool) (s : Standing) (x : ℕ) → IsRight t s.board → IsDuePit t s.board x → captured s.board x ≡ 0 → IsGood t first s → IsGood t first (after s x)
 good_next t first s x r due none good =
     let move : IsMove s.board x 0 (next_board s.board x) = subst (λ c. IsMove s.board x c (next_board s.board x)) none (move_of s.board x due.legal) in
     record {
@@ -179,7 +179,7 @@ IsOnWay t first dist k s = ((s.quiet ≡ 0) × (k ≡ dist)) ⊎ IsOpen t first 
 open_at : (t : Table) (first : Bool) (dist k : ℕ) (s : Standing) → k < dist → IsOnWay t first dist k s → IsOpen t first dist k s
 open_at t first dist k s near way = elim way [ inl come ↦ absurd (omega (arith, come.1, near)) | inr still ↦ still ]
 
-way-more : (t : Table) (first : Bool) (dist k : ℕ) (s : Standing) (x : ℕ) → IsRightBy Least t s.board → IsDuePit t s.board x → k < dist → IsOpen t first dist k s
+way-more : (t : Table) (first : Bool) (dist k : ℕ) (s : Standing) (x : ℕ) → IsRight t s.board → IsDuePit t s.board x → k < dist → IsOpen t first dist k s
     → IsOnWay t first dist (k + 1) (after s x)
 way-more t first dist k s x r due near still =
     let far : 1 ≤ t.dist s.board = omega (arith, still.left, near) in
@@ -233,13 +233,13 @@ first_won v e = grind (arith, ints, nat_tests)
 first_lost : (v : ℤ) → v ≢ pos 0 → true ≡ not (int_lt (pos 0) v) → v <ℤ pos 0
 first_lost v other e = grind (arith, ints, nat_tests)
 
-good_start : (t : Table) (board : List ℕ) → IsRightBy Least t board → 0 < t.dist board → IsGood t (favours_mover t board) (start board)
+good_start : (t : Table) (board : List ℕ) → IsRight t board → 0 < t.dist board → IsGood t (favours_mover t board) (start board)
 good_start t board r far = record {
   won = first_won (t.value board);
   lost = first_lost (t.value board) (λ even. omega (arith, r.distances.even even, far));
 }
 
-pub held-start : (t : Table) (levels : ℕ) (board : List ℕ) (seen : Standing) → IsBoard board → sum board < levels → IsRightBy Least t board → Shows seen board [] → IsHeld t levels 0 board seen []
+pub held-start : (t : Table) (levels : ℕ) (board : List ℕ) (seen : Standing) → IsBoard board → sum board < levels → IsRight t board → Shows seen board [] → IsHeld t levels 0 board seen []
 held-start t levels board seen is_board low r shows =
     let at : shows.standing ≡ start board = shows.play in
     let there : seen.board ≡ board = shows.shown.board ∙ ap (λ (s : Standing). s.board) at in
@@ -262,13 +262,13 @@ held-far t levels k board seen moves near held =
     let left = still.left in
     subst (λ b. 1 ≤ t.dist b) (sym held.shows.shown.board) (omega (arith, left, near))
 
-pub held-more : (t : Table) (levels k : ℕ) (board : List ℕ) (seen later : Standing) (moves : List ℕ) (x : ℕ) → k < t.dist board → IsRightBy Least t seen.board
+pub held-more : (t : Table) (levels k : ℕ) (board : List ℕ) (seen later : Standing) (moves : List ℕ) (x : ℕ) → k < t.dist board → IsRight t seen.board
     → IsDuePit t seen.board x → IsHeld t levels k board seen moves → Shows later board (moves ++ x ∷ []) → IsHeld t levels (k + 1) board later (moves ++ x ∷ [])
 held-more t levels k board seen later moves x near r due held shows =
     let s = held.shows.standing in
     let at : shows.standing ≡ after s x = one_more moves x (start board) s shows.standing held.shows.play shows.play in
     let there : seen.board ≡ s.board = held.shows.shown.board in
-    let right : IsRightBy Least t s.board = subst (IsRightBy Least t) there r in
+    let right : IsRight t s.board = subst (IsRight t) there r in
     let mine : IsDuePit t s.board x = subst (λ b. IsDuePit t b x) there due in
     let still : IsOpen t (favours_mover t board) (t.dist board) k s = open_at t _ _ _ _ near held.way in
     let good = still.good (omega (arith, near)) in
@@ -305,7 +305,7 @@ some_moves [] some = absurd (some refl)
 some_moves (x ∷ xs) some = omega arith
 
 -- after as many plies as the distance it is the line
-pub held-end : (t : Table) (levels k : ℕ) (board : List ℕ) (seen : Standing) (moves : List ℕ) → k ≡ t.dist board → IsRightBy Least t seen.board → IsHeld t levels k board seen moves
+pub held-end : (t : Table) (levels k : ℕ) (board : List ℕ) (seen : Standing) (moves : List ℕ) → k ≡ t.dist board → IsRight t seen.board → IsHeld t levels k board seen moves
     → IsLongestLine t board moves
 held-end t levels k board seen moves all r held = record {
   last = held.shows.standing;
@@ -320,8 +320,8 @@ held-end t levels k board seen moves all r held = record {
   size = held.size ∙ all;
 }
   where
-    right : IsRightBy Least t held.shows.standing.board
-    right = subst (IsRightBy Least t) held.shows.shown.board r
+    right : IsRight t held.shows.standing.board
+    right = subst (IsRight t) held.shows.shown.board r
 
     ended : 0 < t.dist board → IsOpen t (favours_mover t board) (t.dist board) k held.shows.standing → IsEnded held.shows.standing.board
     ended some still = λ x legal.

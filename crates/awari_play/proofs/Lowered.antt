@@ -4,7 +4,7 @@ use Rattle.std.proofs.lemmas.Bool.{cases_lt}
 use Rattle.std.proofs.lemmas.Int.{ints}
 use Rattle.awari_board.specs.Rules.{IsMove, IsLegal, IsEnd, IsEnded, captured, next_board}
 use Rattle.awari_table.specs.Certificate.{Table, plies, GainsIn, GainsNoSooner, MovesIn, MovesNoLater, IsRightBy}
-use Rattle.awari_table.specs.declared.rules.Distances.TheVariants.{Falling}
+use Rattle.awari_theory.specs.Older.{DistancesFall}
 use Rattle.awari_table.proofs.CertificateLemmas.{plies_some, plies_cases}
 use Rattle.awari_table.specs.Reached.{Reaches}
 use Rattle.awari_table.specs.declared.rules.Reached.{Reached}
@@ -205,7 +205,7 @@ module _ (t : Table) (p : List ℕ) where
 
   -- ---- at first
 
-  pub above_falling : IsRightBy Falling t p → IsAbove t p
+  pub above_falling : IsRightBy DistancesFall t p → IsAbove t p
   above_falling r = record {
     even = r.distances.even;
     ends = λ stuck. let end : IsEnd p _ = record { stuck = stuck; gains = refl } in (r.ends _ end).2;

@@ -8,10 +8,10 @@ use Rattle.awari_rank.specs.Rank.{rank_of, size_of}
 use Rattle.awari_rank.proofs.Ranking.{rank_fixes}
 use Rattle.awari_table.specs.declared.images.Entry.{Entry}
 use Rattle.awari_table.specs.declared.images.Image.{Image}
-use Rattle.awari_table.specs.declared.rules.Distances.TheVariants.{Falling, Least}
-use Rattle.awari_table.specs.Certificate.{Table, IsRightBy}
+use Rattle.awari_table.specs.Certificate.{Table, IsRight, IsRightBy}
 use Rattle.awari_table.specs.Images.{entry_of, table_of, no_entry}
-use Rattle.awari_table.specs.Shelves.{ConsistentBy}
+use Rattle.awari_table.specs.Shelves.{Consistent, ConsistentBy}
+use Rattle.awari_theory.specs.Older.{DistancesFall}
 use Rattle.awari_table.proofs.CertificateLemmas.{plies_cases}
 use Rattle.awari_table.proofs.EntryLemmas.{entry_of-append, entry_of-rank, entry_of-above}
 use Rattle.awari_play.specs.Least.{NoFarther}
@@ -243,7 +243,7 @@ fell_all shelf old now near rank false all ranks h = (h.fell.0, λ p is stones. 
 -- ---- the image
 
 -- no distance of an image that is consistent by the old rules is below what its moves say
-pub above_image : (shelf : List Image) (image : Image) → ConsistentBy Falling shelf image → AreAbove shelf image.entries
+pub above_image : (shelf : List Image) (image : Image) → ConsistentBy DistancesFall shelf image → AreAbove shelf image.entries
 above_image shelf image old p is stones =
     let t = table_of (shelf ++ image ∷ []) in
     let u = table_of (with_top shelf image.entries) in
@@ -255,7 +255,7 @@ above_image shelf image old p is stones =
 sign_cases : (v : ℤ) → (v ≤ℤ pos 0) ⊎ (pos 0 <ℤ v)
 sign_cases v = grind (arith, ints)
 
-module _ (shelf : List Image) (image last : Image) (lowered : List Entry) (old : ConsistentBy Falling shelf image) (nearer : NoFarther image.entries lowered) (above : AreAbove shelf lowered)
+module _ (shelf : List Image) (image last : Image) (lowered : List Entry) (old : ConsistentBy DistancesFall shelf image) (nearer : NoFarther image.entries lowered) (above : AreAbove shelf lowered)
     (below : AreBelow shelf lowered) (same : SameSettled lowered last.entries) (finished : IsNextImage shelf last) where
   abbrev first : Table
   first = table_of (shelf ++ image ∷ [])
@@ -275,7 +275,7 @@ module _ (shelf : List Image) (image last : Image) (lowered : List Entry) (old :
   values : (q : List ℕ) → table.value q ≡ first.value q
   values q = (alike q).0 ∙ values_first q
 
-  rules : (p : List ℕ) → IsBoard p → sum p ≡ length shelf → IsRightBy Least table p
+  rules : (p : List ℕ) → IsBoard p → sum p ≡ length shelf → IsRight table p
   rules p is stones = record {
     in_range = (subst (λ v. neg_ℤ (pos (sum p)) ≤ℤ v) (sym (values p)) r.in_range.0, subst (λ v. v ≤ℤ pos (sum p)) (sym (values p)) r.in_range.1, lowest_own table p (table.plan p) lowest);
     ends = λ g end. (values p ∙ (r.ends g end).0, lowest_ended table p (table.plan p) lowest end.stuck, here.ends end.stuck);
@@ -296,7 +296,7 @@ module _ (shelf : List Image) (image last : Image) (lowered : List Entry) (old :
     };
   }
     where
-      r : IsRightBy Falling first p
+      r : IsRightBy DistancesFall first p
       r = old.right p is (stones ∙ sym old.next)
 
       lowest : IsLowest table p (table.plan p)
@@ -330,7 +330,7 @@ module _ (shelf : List Image) (image last : Image) (lowered : List Entry) (old :
             (x, (captured p x, next_board p x, move, omega (arith, ints, gain, values p, values (next_board p x)), λ up. absurd (omega (arith, ints, low, up))))
       ]
 
-  pub least_consistent : ConsistentBy Least shelf last
+  pub least_consistent : Consistent shelf last
   least_consistent = record {
     next = finished.level;
     low = (let few = old.low in let next = old.next in omega (arith, few, next, finished.level));

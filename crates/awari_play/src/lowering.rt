@@ -3,7 +3,8 @@
 ghost use Rattle.std.specs.Prelude.{◌≡◌, ◌≤◌, ◌<◌, IfOk, length, sum};
 ghost use Rattle.awari_rank.specs.Rank.{size_of};
 ghost use Rattle.awari_table.specs.Images.{entry_of, table_of};
-ghost use Rattle.awari_table.specs.Shelves.{Consistent, ConsistentBy};
+ghost use Rattle.awari_table.specs.Shelves.{Consistent};
+ghost use Rattle.awari_theory.specs.Older.{ConsistentOld};
 ghost use Rattle.awari_play.specs.Least.{NoFarther, IsPlannedLowest};
 ghost use Rattle.awari_table.specs.Reached.{Reaches};
 ghost use Rattle.awari_play.specs.Lowering.{IsNearest, IsFarthest, IsByMoves, AreAbove, AreBelow, AreBelowTo, IsNearerBy, farther_by, IsLowered, Lowers, LowersBoard, Fell};
@@ -13,14 +14,14 @@ use crate::plans::{planned_image, reached_by};
 use awari_board::SIDE;
 use awari_packed::PackedBoard;
 use awari_rank::size;
-use awari_table::{Distances, Entry, Image, Reached, Shelf};
+use awari_table::{Entry, Image, Reached, Shelf};
 use std::alloc::{AllocError, Global};
 
 /// The image with the same values, the least distances, the lowest plans that these make, and the
 /// greatest distance as its limit. Condition: the image is consistent by the older rules, which ask
 /// that distances fall. It takes memory for eight bytes a board, and is refused only if that runs out.
 pub fn least(alloc: Global, shelf: &Shelf, image: Image) -> Result<Image, AllocError>
-    requires { ConsistentBy Distances.Falling shelf.now image }
+    requires { ConsistentOld shelf.now image }
     ensures consistent { IfOk result (Consistent shelf.now) }
     ensures nearer { IfOk result (λ least. NoFarther image.entries least.entries) }
     ensures planned { IfOk result (IsPlannedLowest shelf.now) }

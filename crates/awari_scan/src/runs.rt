@@ -16,7 +16,7 @@ use awari_block::{Cell, Pits};
 use awari_index::Index;
 use awari_packed::PackedBoard;
 use awari_rank::ranks_tell_boards_apart;
-use awari_table::{Shelf, shelves_are_certificates};
+use awari_table::{Shelf, boards_are_right};
 use std::alloc::{AllocError, Global};
 
 /// The legal pits of the boards of a run: those whose sowing ends on the mover's side, and those whose
@@ -45,7 +45,7 @@ pub fn scanned_cells(
     ensures size { IfOk result (λ cells. start + vec_len cells ≡ end) }
     ensures scanned { IfOk result (λ cells. AreScanned (table_of shelf.now).value (length shelf.now) start end cells.items) }
 {
-    shelves_are_certificates();
+    boards_are_right();
     let _level = shelf.levels();
     let mut cells = unscanned_cells(alloc, (end - start) as usize)?;
     scan_cells(shelf, index, start, cells.as_mut_slice());

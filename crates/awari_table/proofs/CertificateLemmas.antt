@@ -1,13 +1,10 @@
--- The table of a shelf is a certificate.
-use Rattle.std.proofs.Common.{◌≡◌, ℕ, zero, suc, ◌+◌, ◌<◌, ◌≤◌, ◌⊎◌, List, [], ◌∷◌, length, take, get_or, sum, fold, max, sym, ap, refl, arith, inl, inr, ◌∙◌, ℤ, pos, ◌<ℤ◌}
-use Rattle.std.proofs.lemmas.Int.{ints}
+-- The boards of a shelf are right.
+use Rattle.std.proofs.Common.{◌≡◌, ℕ, zero, suc, ◌+◌, ◌<◌, ◌≤◌, ◌⊎◌, List, [], ◌∷◌, length, take, get_or, sum, fold, max, sym, ap, refl, arith, inl, inr, ◌∙◌}
 use Rattle.std.proofs.lemmas.Bool.Decides.{nat_tests}
 use Rattle.std.proofs.lemmas.Bool.{cases_lt}
 use Rattle.std.proofs.lemmas.List.{take_more, get_or-take, get_or_past, length-take-le}
 use Rattle.awari_board.specs.Rules.{IsBoard, IsMove}
-use Rattle.awari_table.specs.Certificate.{Table, plies, DistancesFall, DistancesAreLeast, DistancesAre, IsRightBy, IsCertificate}
-use Rattle.awari_table.specs.declared.rules.Distances.{Distances}
-use Rattle.awari_table.specs.declared.rules.Distances.TheVariants.{Falling, Least}
+use Rattle.awari_table.specs.Certificate.{Table, plies, DistancesAreLeast, IsRight}
 use Rattle.awari_rank.specs.Rank.{rank_of}
 use Rattle.awari_table.specs.declared.images.Entry.{Entry}
 use Rattle.awari_table.specs.declared.images.Image.{Image}
@@ -33,43 +30,9 @@ pub plies_cases : (c dist : ℕ) → ((0 < c) × (plies c dist ≡ 1)) ⊎ ((c �
 plies_cases zero dist = inr (refl, refl)
 plies_cases (suc c) dist = inl (omega arith, plies_taken (suc c) dist (omega arith))
 
-sign_cases : (v : ℤ) → (pos 0 <ℤ v) ⊎ ((v <ℤ pos 0) ⊎ (v ≡ pos 0))
-sign_cases v = grind (arith, ints)
-
--- distances that are the least fall
-pub DistancesFall-least : (t : Table) (p : List ℕ) → DistancesAreLeast t p → DistancesFall t p
-DistancesFall-least t p h = record {
-  even = h.even;
-  uneven = λ going other. elim (sign_cases (t.value p)) [
-    | inl up ↦ let (x, c, q, move, gain, takes) = (h.won going up).0 in omega (arith, plies_some c (t.dist q), takes)
-    | inr (inl down) ↦ let (x, c, q, move, takes) = (h.lost going down).0 in omega (arith, plies_some c (t.dist q), takes)
-    | inr (inr even) ↦ absurd (other even)
-  ];
-  winning = h.winning;
-  losing = λ down x q move. let later = (h.lost (λ stuck. stuck x move.legal) down).1 x 0 q move in omega (arith, later);
-}
-
--- whatever is asked of distances, they fall
-pub IsRightBy-falling : (asked : Distances) (t : Table) (p : List ℕ) → IsRightBy asked t p → IsRightBy Falling t p
-IsRightBy-falling Falling t p r = r
-IsRightBy-falling Least t p r = record {
-  in_range = r.in_range;
-  ends = r.ends;
-  has_plan = r.has_plan;
-  no_more = r.no_more;
-  plan_gains = r.plan_gains;
-  distances = DistancesFall-least t p r.distances;
-}
-
 -- the rules at a board look at that board and at those that its moves lead to
-distances_local : (asked : Distances) (t u : Table) (p : List ℕ) → Agree t u p → ((x c : ℕ) (q : List ℕ) → IsMove p x c q → Agree t u q) → DistancesAre asked t p → DistancesAre asked u p
-distances_local Falling t u p here next r = record {
-  even = rw (← here.value, ← here.dist) r.even;
-  uneven = rw (← here.value, ← here.dist) r.uneven;
-  winning = λ up x c q is move. let there = next x c q move in rw (← here.dist, ← there.dist) (r.winning (rw here.value up) x c q (here.plan ∙ is) move);
-  losing = λ down x q move. let there = next x 0 q move in rw (← here.dist, ← there.dist) (r.losing (rw here.value down) x q move);
-}
-distances_local Least t u p here next r = record {
+distances_local : (t u : Table) (p : List ℕ) → Agree t u p → ((x c : ℕ) (q : List ℕ) → IsMove p x c q → Agree t u q) → DistancesAreLeast t p → DistancesAreLeast u p
+distances_local t u p here next r = record {
   even = rw (← here.value, ← here.dist) r.even;
   won = λ going up.
       let (some, all) = r.won going (rw here.value up) in
@@ -88,14 +51,14 @@ distances_local Least t u p here next r = record {
   winning = λ up x c q is move. let there = next x c q move in rw (← here.dist, ← there.dist) (r.winning (rw here.value up) x c q (here.plan ∙ is) move);
 }
 
-IsRightBy-local : (asked : Distances) (t u : Table) (p : List ℕ) → Agree t u p → ((x c : ℕ) (q : List ℕ) → IsMove p x c q → Agree t u q) → IsRightBy asked t p → IsRightBy asked u p
-IsRightBy-local asked t u p here next r = record {
+IsRight-local : (t u : Table) (p : List ℕ) → Agree t u p → ((x c : ℕ) (q : List ℕ) → IsMove p x c q → Agree t u q) → IsRight t p → IsRight u p
+IsRight-local t u p here next r = record {
   in_range = rw (← here.value, ← here.plan) r.in_range;
   ends = rw (← here.value, ← here.plan, ← here.dist) r.ends;
   has_plan = rw (← here.plan) r.has_plan;
   no_more = λ x c q move. let there = next x c q move in rw (← here.value, ← there.value) (r.no_more x c q move);
   plan_gains = λ x c q is move. let there = next x c q move in rw (← here.value, ← there.value) (r.plan_gains x c q (here.plan ∙ is) move);
-  distances = distances_local asked t u p here next r.distances;
+  distances = distances_local t u p here next r.distances;
 }
 
 -- the levels below n say all of boards with fewer than n stones
@@ -109,12 +72,12 @@ Agree-take levels n p low =
     record { value = ap (λ (e : Entry). e.value) same; plan = ap (λ (e : Entry). e.plan) same; dist = ap (λ (e : Entry). e.dist) same }
 
 -- each level's boards are right by the whole table
-pub right_from_shelf : (levels : List Image) → IsShelf levels → (p : List ℕ) → IsBoard p → sum p < length levels → IsRightBy Least (table_of levels) p
+pub right_from_shelf : (levels : List Image) → IsShelf levels → (p : List ℕ) → IsBoard p → sum p < length levels → IsRight (table_of levels) p
 right_from_shelf levels shelf p board low =
     let level = shelf.consistent (sum p) low in
     let here : sum p ≡ (get_or levels (sum p) no_image).level = sym (level.next ∙ length-take-le (sum p) levels (omega arith)) in
-    let right : IsRightBy Least (table_of (take (sum p + 1) levels)) p = rw (take_more levels (sum p) no_image low) (level.right p board here) in
-    IsRightBy-local Least (table_of (take (sum p + 1) levels)) (table_of levels) p
+    let right : IsRight (table_of (take (sum p + 1) levels)) p = rw (take_more levels (sum p) no_image low) (level.right p board here) in
+    IsRight-local (table_of (take (sum p + 1) levels)) (table_of levels) p
     (Agree-take levels (sum p + 1) p (omega arith))
     (λ x c q move. let kept = sum-from_IsMove p x c q board.pits move in Agree-take levels (sum p + 1) q (omega arith))
     right
@@ -148,7 +111,7 @@ dist_le entries k =
       | inr ge ↦ rw (get_or_past entries k no_entry ge) (omega arith)
     ]
 
-limited_from_shelf : (levels : List Image) → IsShelf levels → (p : List ℕ) → sum p < length levels → (entry_of levels p).dist ≤ greatest_limit levels
+pub limited_from_shelf : (levels : List Image) → IsShelf levels → (p : List ℕ) → sum p < length levels → (entry_of levels p).dist ≤ greatest_limit levels
 unfolding entry_of
 limited_from_shelf levels shelf p low =
     let level = shelf.consistent (sum p) low in
@@ -156,10 +119,3 @@ limited_from_shelf levels shelf p low =
     let least = dist_le (get_or levels (sum p) no_image).entries (rank_of p) in
     let is = level.limited in
     omega arith
-
--- the theorem of the shelf
-pub IsCertificate-shelf : (levels : List Image) → IsShelf levels → IsCertificate (table_of levels) (length levels) (greatest_limit levels)
-IsCertificate-shelf levels shelf = record {
-  right = λ p board low. IsRightBy-falling Least (table_of levels) p (right_from_shelf levels shelf p board low);
-  limited = λ p board low. limited_from_shelf levels shelf p low;
-}

@@ -11,12 +11,10 @@ use Rattle.std.proofs.lemmas.Option.{get_or_from_slice_get, slice_get_within}
 use Rattle.awari_rank.specs.Rank.{rank_of, size_of}
 use Rattle.awari_rank.proofs.Reaching.{board_reached}
 use Rattle.awari_table.specs.declared.images.Entry.{Entry}
-use Rattle.awari_table.specs.Certificate.{IsRightBy}
-use Rattle.awari_table.specs.declared.rules.Distances.{Distances}
-use Rattle.awari_table.specs.declared.rules.Distances.TheVariants.{Falling, Least}
+use Rattle.awari_table.specs.Certificate.{IsRight}
 use Rattle.awari_table.specs.Images.{HasOwnPlan, IsLevel, no_image, no_entry, entry_of, greatest_limit, table_of}
 use Rattle.awari_table.proofs.EntryLemmas.{entry_of-rank}
-use Rattle.awari_table.specs.Shelves.{Consistent, ConsistentBy, highest_by, IsShelf}
+use Rattle.awari_table.specs.Shelves.{Consistent, IsShelf}
 use Rattle.awari_table.specs.Slots.{image_in, HoldsShelf}
 
 -- the level at k is consistent over those below it
@@ -76,32 +74,26 @@ pub greatest_limit-read : (levels : List Image) (i : ℕ) (image : Image) → sl
 greatest_limit-read levels i image found =
     rw (fold_more (λ most j. max most j.limit) 0 levels i image (slice_get_within levels i image found), get_or_from_slice_get levels i image image found)
 
--- no rules are for levels above the highest
-pub highest_low : (asked : Distances) → highest_by asked ≤ highest_by Least
-highest_low Falling = omega arith
-highest_low Least = omega arith
-
 -- a right board has an own plan, which is that of the entry at its rank
-pub HasOwnPlan-top : (asked : Distances) (levels : List Image) (image : Image) (p : List ℕ) (rank : ℕ) → sum p ≡ length levels → rank_of p ≡ rank → IsRightBy asked (table_of (levels ++ image ∷ [])) p → HasOwnPlan (get_or image.entries rank no_entry)
-HasOwnPlan-top asked levels image p rank top ranked right =
+pub HasOwnPlan-top : (levels : List Image) (image : Image) (p : List ℕ) (rank : ℕ) → sum p ≡ length levels → rank_of p ≡ rank → IsRight (table_of (levels ++ image ∷ [])) p → HasOwnPlan (get_or image.entries rank no_entry)
+HasOwnPlan-top levels image p rank top ranked right =
     subst (λ (e : Entry). HasOwnPlan e) (entry_of-rank levels image p rank top ranked) right.in_range.2
 
 -- in a consistent image every plan is an own pit
-plans_from_right : (asked : Distances) (levels : List Image) (image : Image) → ConsistentBy asked levels image → All HasOwnPlan image.entries
-plans_from_right asked levels image consistent k d lt =
+plans_from_right : (levels : List Image) (image : Image) → Consistent levels image → All HasOwnPlan image.entries
+plans_from_right levels image consistent k d lt =
     let sized = consistent.sized in
-    let low = highest_low asked in
     let within_low = consistent.low in
     let within : k < size_of image.level = omega arith in
     let at = board_reached image.level k (omega arith) within in
     let ranked = at.3 in
     rw (get_or_default image.entries k d no_entry lt)
-    (HasOwnPlan-top asked levels image at.0 k (at.2 ∙ consistent.next) at.3 (consistent.right at.0 at.1 at.2))
+    (HasOwnPlan-top levels image at.0 k (at.2 ∙ consistent.next) at.3 (consistent.right at.0 at.1 at.2))
 
 -- a consistent image is one of a level
-pub IsLevel-consistent : (asked : Distances) (levels : List Image) (image : Image) → ConsistentBy asked levels image → IsLevel image
-IsLevel-consistent asked levels image consistent = record {
-  low = omega (arith, consistent.low, highest_low asked);
+pub IsLevel-consistent : (levels : List Image) (image : Image) → Consistent levels image → IsLevel image
+IsLevel-consistent levels image consistent = record {
+  low = consistent.low;
   sized = consistent.sized;
-  plans = plans_from_right asked levels image consistent;
+  plans = plans_from_right levels image consistent;
 }

@@ -1,8 +1,6 @@
 -- What a table has to say of each board: the rules V1 to V6, and a table that keeps them.
-use Rattle.std.specs.Prelude.{◌≡◌, ◌≢◌, ℕ, ◌+◌, ◌<◌, ◌≤◌, ◌==◌, if◌then◌else◌, ◌⊎◌, List, sum, ℤ, pos, neg_ℤ, ◌-ℤ◌, ◌≤ℤ◌, ◌<ℤ◌, Option, Some, None, IfSome}
-use Rattle.awari_board.specs.Rules.{IsBoard, IsMove, IsLegal, IsEnd, IsEnded}
-use Rattle.awari_table.specs.declared.rules.Distances.{Distances}
-use Rattle.awari_table.specs.declared.rules.Distances.TheVariants.{Falling, Least}
+use Rattle.std.specs.Prelude.{◌≡◌, ℕ, ◌+◌, ◌<◌, ◌≤◌, ◌==◌, if◌then◌else◌, ◌⊎◌, List, sum, ℤ, pos, neg_ℤ, ◌-ℤ◌, ◌≤ℤ◌, ◌<ℤ◌, Option, Some, None, IfSome}
+use Rattle.awari_board.specs.Rules.{IsMove, IsLegal, IsEnd, IsEnded}
 
 -- what a table says of each board
 pub record Table : Type 0 where
@@ -30,14 +28,6 @@ NoMoveGainsMore t p = (x c : ℕ) (q : List ℕ) → IsMove p x c q → (pos c -
 abbrev pub PlanGains : Table → List ℕ → Type 0
 PlanGains t p = (x c : ℕ) (q : List ℕ) → t.plan p ≡ Some x → IsMove p x c q → (pos c -ℤ t.value q) ≡ t.value p
 
--- V6 of older files, which a yes does not use: at value 0 the distance is 0; any other board not ended has at least 1; the plan of
--- a positive board captures or leads to a smaller distance; and each quiet move of a negative board leads to a smaller distance.
-pub record DistancesFall (t : Table) (p : List ℕ) : Type 0 where
-  pub even : t.value p ≡ pos 0 → t.dist p ≡ 0
-  pub uneven : (IsEnded p → ⊥) → t.value p ≢ pos 0 → 1 ≤ t.dist p
-  pub winning : pos 0 <ℤ t.value p → (x c : ℕ) (q : List ℕ) → t.plan p ≡ Some x → IsMove p x c q → (0 < c) ⊎ (t.dist q < t.dist p)
-  pub losing : t.value p <ℤ pos 0 → (x : ℕ) (q : List ℕ) → IsMove p x 0 q → t.dist q < t.dist p
-
 -- how many plies a move takes: one where it captures, and else one more than the distance of the board that it leaves
 abbrev pub plies : ℕ → ℕ → ℕ
 plies c dist = if c == 0 then dist + 1 else 1
@@ -57,7 +47,7 @@ MovesIn t p k = (x c : ℕ) × (q : List ℕ) × IsMove p x c q × (plies c (t.d
 abbrev pub MovesNoLater : Table → List ℕ → ℕ → Type 0
 MovesNoLater t p k = (x c : ℕ) (q : List ℕ) → IsMove p x c q → plies c (t.dist q) ≤ k
 
--- V6, by which distances have to be the least: at value 0 the distance is 0; a positive board that is not ended has the least
+-- V6, by which distances are the least: at value 0 the distance is 0; a positive board that is not ended has the least
 -- number of plies that a move takes which gains its value; a negative one has the greatest that a move takes; and the plan of a
 -- positive board captures or leads to a smaller distance.
 pub record DistancesAreLeast (t : Table) (p : List ℕ) : Type 0 where
@@ -66,22 +56,15 @@ pub record DistancesAreLeast (t : Table) (p : List ℕ) : Type 0 where
   pub lost : (IsEnded p → ⊥) → t.value p <ℤ pos 0 → MovesIn t p (t.dist p) × MovesNoLater t p (t.dist p)
   pub winning : pos 0 <ℤ t.value p → (x c : ℕ) (q : List ℕ) → t.plan p ≡ Some x → IsMove p x c q → (0 < c) ⊎ (t.dist q < t.dist p)
 
--- V6, by what is asked of distances
-abbrev pub DistancesAre : Distances → Table → List ℕ → Type 0
-DistancesAre Falling t p = DistancesFall t p
-DistancesAre Least t p = DistancesAreLeast t p
-
--- all these rules, at one board
-pub record IsRightBy (asked : Distances) (t : Table) (p : List ℕ) : Type 0 where
+-- all these rules, at one board, with what V6 asks
+pub record IsRightBy (Asked : Table → List ℕ → Type 0) (t : Table) (p : List ℕ) : Type 0 where
   pub in_range : InRange t p
   pub ends : EndIsRight t p
   pub has_plan : HasPlan t p
   pub no_more : NoMoveGainsMore t p
   pub plan_gains : PlanGains t p
-  pub distances : DistancesAre asked t p
+  pub distances : Asked t p
 
--- All boards with fewer than `levels` stones are right, and no distance among them is above the limit. Of distances it
--- asks only that they fall. Proofs go by this, and a yes does not use it.
-pub record IsCertificate (t : Table) (levels limit : ℕ) : Type 0 where
-  pub right : (p : List ℕ) → IsBoard p → sum p < levels → IsRightBy Falling t p
-  pub limited : (p : List ℕ) → IsBoard p → sum p < levels → t.dist p ≤ limit
+-- by the rules in force
+abbrev pub IsRight : Table → List ℕ → Type 0
+IsRight t p = IsRightBy DistancesAreLeast t p

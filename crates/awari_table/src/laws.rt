@@ -1,10 +1,11 @@
 //! What follows of a shelf, and of the text of a table.
 
-ghost use Rattle.std.specs.Prelude.{◌≡◌, ◌≢◌, ◌++◌, ◌∷◌, [], ℕ, List, None, Some, codes, length, neg_ℤ, pos, take};
+ghost use Rattle.std.specs.Prelude.{◌≡◌, ◌≢◌, ◌<◌, ◌++◌, ◌∷◌, [], ℕ, List, None, Some, codes, length, neg_ℤ, pos, sum, take};
+ghost use Rattle.awari_board.specs.Rules.{IsBoard};
 ghost use Rattle.awari_table.specs.declared.images.Image.{Image};
 ghost use Rattle.awari_table.specs.declared.TheConstants.{HIGHEST_FALLING_LEVEL, HIGHEST_LEVEL};
-ghost use Rattle.awari_table.specs.Certificate.{IsCertificate, plies};
-ghost use Rattle.awari_table.specs.Images.{table_of, greatest_limit};
+ghost use Rattle.awari_table.specs.Certificate.{IsRight, plies};
+ghost use Rattle.awari_table.specs.Images.{table_of};
 ghost use Rattle.awari_table.specs.Shelves.{IsShelf};
 ghost use Rattle.awari_table.specs.declared.faults.TableFault.{TableFault};
 ghost use Rattle.awari_table.specs.Spelling.{block, entry_line, header_line, table_text, IsImage, AreImages};
@@ -20,10 +21,9 @@ pub fn highest_falling_level_is_12()
     ensures { HIGHEST_FALLING_LEVEL ≡ 12 }
 {}
 
-/// The levels of a shelf are a certificate: by the one table of all levels, every board keeps the
-/// rules, and no distance is above the greatest limit.
-pub fn shelves_are_certificates()
-    ensures { (levels : List Image) → IsShelf levels → IsCertificate (table_of levels) (length levels) (greatest_limit levels) }
+/// Every board of a shelf is right by the one table of all levels.
+pub fn boards_are_right()
+    ensures { (levels : List Image) → IsShelf levels → (p : List ℕ) → IsBoard p → sum p < length levels → IsRight (table_of levels) p }
 {}
 
 /// The lowest levels of a shelf are a shelf. So what is said of a board does not depend on the levels

@@ -33,11 +33,11 @@ pub use awari_streams::{Counted, LINE_ROOM, TextLine, push_number, push_signed, 
 pub use faults::TableFault;
 pub use images::{Counts, Entries, Entry, Image, greatest_dist};
 pub use laws::{
-    fronts_are_shelves, highest_falling_level_is_12, highest_level_is_24, one_text_fault_is_due,
-    shelves_are_certificates, texts_tell_images_apart, worked_examples,
+    boards_are_right, fronts_are_shelves, highest_falling_level_is_12, highest_level_is_24,
+    one_text_fault_is_due, texts_tell_images_apart, worked_examples,
 };
 pub use levels::Level;
-pub use rules::{Distances, Reached};
+pub use rules::Reached;
 pub use shelves::{NotYet, Shelf};
 pub use spelling::{line_of_entry, write_level_text, write_shelf_text};
 pub use text::TableText;

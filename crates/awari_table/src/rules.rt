@@ -1,20 +1,10 @@
-//! By which rules a table is judged, and what they ask of a move.
+//! What the rules ask of a move.
 
 ghost use Rattle.std.specs.Prelude.{ℕ, ◌≡◌, ◌≤◌};
 ghost use Rattle.awari_table.specs.Certificate.{plies};
 ghost use Rattle.awari_table.specs.Reached.{gain_of};
 
 use crate::images::Entry;
-
-/// What rule V6 asks of distances.
-#[derive(Clone, Copy, Debug, PartialEq, Eq)]
-pub enum Distances {
-    /// They fall along the plans. This is the older rule, for levels up to `HIGHEST_FALLING_LEVEL`.
-    Falling,
-    /// They are the least. A won board has the fewest plies of a move that gains the value, and a
-    /// lost one the most plies of any move.
-    Least,
-}
 
 /// A legal move: the stones that it captures, the value of the board that it leaves, and how many
 /// plies it takes. It takes one if it captures, else one more than the distance of the board that it

@@ -4,7 +4,8 @@ use Rattle.std.proofs.lemmas.Int.{ints}
 use Rattle.std.proofs.lemmas.Bool.{cases_lt}
 use Rattle.awari_board.specs.Rules.{IsBoard, IsLegal, captured, next_board}
 use Rattle.awari_game.specs.Plays.{Standing, start, after, IsPlay, IsOutcome, Follows, Ends}
-use Rattle.awari_table.specs.Certificate.{Table, IsCertificate}
+use Rattle.awari_table.specs.Certificate.{Table}
+use Rattle.awari_theory.specs.Older.{IsCertificate}
 use Rattle.awari_theory.specs.Secures.{Comes}
 use Rattle.awari_theory.proofs.Moves.{stones_kept, next_is_board, move_of}
 use Rattle.awari_theory.proofs.Sides.{quiet_none}

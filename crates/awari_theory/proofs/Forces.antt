@@ -2,8 +2,8 @@
 use Rattle.std.proofs.Common.{◌≡◌, ◌≢◌, ℕ, zero, suc, ◌+◌, ◌<◌, ◌≤◌, ◌⊎◌, inl, inr, Bool, true, false, List, sum, ℤ, pos, neg_ℤ, ◌-ℤ◌, ◌≤ℤ◌, ◌<ℤ◌, Option, Some, None, refl, sym, subst, arith}
 use Rattle.std.proofs.lemmas.Int.{ints}
 use Rattle.awari_board.specs.Rules.{IsMove, IsLegal, IsEnd, IsEnded, captured, next_board}
-use Rattle.awari_table.specs.Certificate.{Table, IsRightBy, IsCertificate}
-use Rattle.awari_table.specs.declared.rules.Distances.TheVariants.{Falling}
+use Rattle.awari_table.specs.Certificate.{Table, IsRightBy}
+use Rattle.awari_theory.specs.Older.{DistancesFall, IsCertificate}
 use Rattle.awari_theory.specs.Worth.{Forced}
 use Rattle.awari_theory.proofs.Moves.{stones_kept, next_is_board, move_of}
 use Rattle.awari_theory.proofs.Keeps.{IsCovered}
@@ -29,7 +29,7 @@ pub ended_or_planned : (t : Table) (levels limit : ℕ) → IsCertificate t leve
     → IsEnded p ⊎ ((IsEnded p → ⊥) × ((x : ℕ) × (t.plan p ≡ Some x) × IsLegal p x))
 ended_or_planned t levels limit cert p h = go (t.plan p) refl
   where
-    right : IsRightBy Falling t p
+    right : IsRightBy DistancesFall t p
     right = cert.right p h.board h.stones
 
     no_plan : IsEnded p → t.plan p ≡ None

@@ -3,7 +3,8 @@ use Rattle.std.proofs.Common.{◌≡◌, ℕ, ◌<◌, ◌≤◌, inl, inr, Bool
 use Rattle.std.proofs.lemmas.Int.{ints}
 use Rattle.awari_board.specs.Rules.{IsBoard, IsLegal, captured, next_board}
 use Rattle.awari_game.specs.Plays.{Standing, start, after, signed, IsPlay, IsOutcome, Follows}
-use Rattle.awari_table.specs.Certificate.{Table, IsCertificate}
+use Rattle.awari_table.specs.Certificate.{Table}
+use Rattle.awari_theory.specs.Older.{IsCertificate}
 use Rattle.awari_theory.specs.Secures.{Secures}
 use Rattle.awari_theory.proofs.Sides.{seen, own, Holds, IsPly, holds_step}
 use Rattle.awari_theory.proofs.Moves.{stones_kept, next_is_board, move_of}

@@ -2,7 +2,8 @@
 use Rattle.std.proofs.Common.{◌≡◌, ◌≢◌, ℕ, zero, suc, ◌<◌, ◌≤◌, inl, inr, List, sum, ℤ, pos, ◌-ℤ◌, ◌≤ℤ◌, ◌<ℤ◌, sym, ap, ◌∙◌, subst, arith}
 use Rattle.std.proofs.lemmas.Int.{ints}
 use Rattle.awari_board.specs.Rules.{IsBoard, IsMove, IsEnded}
-use Rattle.awari_table.specs.Certificate.{Table, DistancesAreLeast, IsCertificate}
+use Rattle.awari_table.specs.Certificate.{Table, DistancesAreLeast}
+use Rattle.awari_theory.specs.Older.{IsCertificate}
 use Rattle.awari_table.proofs.CertificateLemmas.{plies_cases}
 use Rattle.awari_theory.specs.Worth.{IsWorth}
 use Rattle.awari_theory.specs.Least.{Within, IsLeastDistance}

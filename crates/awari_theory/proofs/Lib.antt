@@ -1,3 +1,4 @@
+pub mod OlderLemmas
 pub mod Moves
 pub mod Sides
 pub mod Keeps

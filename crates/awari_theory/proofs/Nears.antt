@@ -4,7 +4,8 @@ use Rattle.std.proofs.lemmas.Int.{ints}
 use Rattle.std.proofs.lemmas.Bool.Decides.{nat_tests}
 use Rattle.awari_board.specs.Rules.{IsBoard, IsEnded, IsLegal, captured, next_board}
 use Rattle.awari_game.specs.Plays.{Standing, start, after, IsPlay, Follows}
-use Rattle.awari_table.specs.Certificate.{Table, IsCertificate}
+use Rattle.awari_table.specs.Certificate.{Table}
+use Rattle.awari_theory.specs.Older.{IsCertificate}
 use Rattle.awari_theory.specs.Secures.{Soon}
 use Rattle.awari_theory.proofs.Sides.{own, IsPly, comes_nearer, quiet_more, quiet_none}
 use Rattle.awari_theory.proofs.Keeps.{IsCovered, covered_next, ply_of}

@@ -4,14 +4,15 @@ use Rattle.std.proofs.lemmas.List.{get_or-take, length-take-le}
 use Rattle.awari_board.specs.Rules.{IsBoard}
 use Rattle.awari_table.specs.declared.images.Entry.{Entry}
 use Rattle.awari_table.specs.declared.images.Image.{Image}
-use Rattle.awari_table.specs.Certificate.{IsCertificate}
+use Rattle.awari_theory.specs.Older.{IsCertificate}
 use Rattle.awari_table.specs.Images.{no_image, entry_of, table_of, greatest_limit}
 use Rattle.awari_table.specs.Shelves.{IsShelf}
-use Rattle.awari_table.proofs.CertificateLemmas.{IsCertificate-shelf, right_from_shelf}
+use Rattle.awari_table.proofs.CertificateLemmas.{right_from_shelf}
 use Rattle.awari_table.proofs.ShelfLemmas.{IsShelf-take}
 use Rattle.awari_theory.specs.Secures.{Comes}
 use Rattle.awari_theory.specs.Least.{IsLeastDistance}
 use Rattle.awari_theory.specs.Truth.{TellsTruth}
+use Rattle.awari_theory.proofs.OlderLemmas.{IsCertificate-shelf}
 use Rattle.awari_theory.proofs.Keeps.{secures}
 use Rattle.awari_theory.proofs.Nears.{soon}
 use Rattle.awari_theory.proofs.Comes.{comes}

@@ -3,7 +3,8 @@ use Rattle.std.proofs.Common.{◌≡◌, ℕ, zero, suc, ◌<◌, ◌≤◌, ◌
 use Rattle.std.proofs.lemmas.Int.{ints}
 use Rattle.std.proofs.lemmas.Bool.{cases_order}
 use Rattle.awari_board.specs.Rules.{IsBoard, IsMove}
-use Rattle.awari_table.specs.Certificate.{Table, IsCertificate}
+use Rattle.awari_table.specs.Certificate.{Table}
+use Rattle.awari_theory.specs.Older.{IsCertificate}
 use Rattle.awari_theory.specs.Worth.{Forced, Greatest, NoneForced, IsWorthBy, IsWorthBelow, IsWorth}
 use Rattle.awari_theory.specs.Promises.{IsRightWorth}
 use Rattle.awari_theory.proofs.Moves.{stones_kept, next_is_board}

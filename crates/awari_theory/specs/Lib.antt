@@ -1,3 +1,4 @@
+pub mod Older
 pub mod Secures
 pub mod Worth
 pub mod Least

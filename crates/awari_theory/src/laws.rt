@@ -3,7 +3,8 @@
 ghost use Rattle.std.specs.Prelude.{◌≡◌, ℕ, ◌<◌, ◌↔◌, List, ℤ, sum};
 ghost use Rattle.awari_board.specs.Rules.{IsBoard};
 ghost use Rattle.awari_game.specs.Plays.{Ends};
-ghost use Rattle.awari_table.specs.Certificate.{Table, IsCertificate};
+ghost use Rattle.awari_table.specs.Certificate.{Table};
+ghost use Rattle.awari_theory.specs.Older.{IsCertificate};
 ghost use Rattle.awari_theory.specs.Secures.{Secures, Soon, Comes};
 ghost use Rattle.awari_theory.specs.Worth.{IsWorth, IsWorthBelow, IsWorthBy};
 ghost use Rattle.awari_theory.specs.Promises.{IsRightWorth};

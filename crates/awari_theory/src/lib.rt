@@ -5,7 +5,8 @@
 //! caller has the law by calling it. The definitions are in `specs/`. Two speak of no table:
 //! `Worth.antt` says what a position is worth, and `Least.antt` how soon the side that it favours can
 //! bring a capture or the end. Of a table `Secures.antt` says what following its plans secures, and
-//! `Promises.antt` what its values are. `Truth.antt` says all of it of the levels of a shelf.
+//! `Promises.antt` what its values are. `Truth.antt` says all of it of the levels of a shelf. Most proofs
+//! go by the older rules, of `Older.antt`: they ask less, and the rules in force imply them.
 #![tactic(auto)]
 
 mod laws;
@@ -16,5 +17,6 @@ pub use laws::{
     worths_are_unique,
 };
 pub use shelves::{
-    distances_are_least, shelves_agree, shelves_come_to_their_values, shelves_tell_the_truth,
+    distances_are_least, shelves_agree, shelves_are_certificates, shelves_come_to_their_values,
+    shelves_tell_the_truth,
 };

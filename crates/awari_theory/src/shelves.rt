@@ -6,8 +6,15 @@ ghost use Rattle.awari_table.specs.declared.images.Image.{Image};
 ghost use Rattle.awari_table.specs.Images.{entry_of, table_of, greatest_limit};
 ghost use Rattle.awari_table.specs.Shelves.{IsShelf};
 ghost use Rattle.awari_theory.specs.Least.{IsLeastDistance};
+ghost use Rattle.awari_theory.specs.Older.{IsCertificate};
 ghost use Rattle.awari_theory.specs.Secures.{Comes};
 ghost use Rattle.awari_theory.specs.Truth.{TellsTruth};
+
+/// The levels of a shelf are a certificate: by the one table of all levels, every board keeps the
+/// rules, and no distance is above the greatest limit.
+pub fn shelves_are_certificates()
+    ensures { (levels : List Image) → IsShelf levels → IsCertificate (table_of levels) (length levels) (greatest_limit levels) }
+{}
 
 /// What a shelf says of each board with fewer stones than it has levels is the truth.
 pub fn shelves_tell_the_truth()

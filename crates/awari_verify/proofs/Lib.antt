@@ -7,3 +7,4 @@ pub mod LookLemmas
 pub mod TileLemmas
 pub mod FaultLemmas
 pub mod TruthLemmas
+pub mod OlderLemmas

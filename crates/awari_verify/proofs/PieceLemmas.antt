@@ -6,7 +6,6 @@ use Rattle.awari_board.specs.Rules.{IsBoard, own_stones}
 use Rattle.awari_rank.specs.Fillings.{none}
 use Rattle.awari_rank.specs.Rank.{rank_of}
 use Rattle.awari_table.specs.Certificate.{Table}
-use Rattle.awari_table.specs.declared.rules.Distances.{Distances}
 use Rattle.awari_verify.specs.Pieces.{other_filling, part_of, piece_of, InTile, Looks}
 use Rattle.awari_verify.specs.declared.pieces.Nearest.{Nearest}
 use Rattle.awari_verify.proofs.LookLemmas.{Looks-then}
@@ -50,11 +49,11 @@ of_piece p level piece low is_board stones is =
     }
 
 -- one tile more: the next of the piece begins 4096 fillings behind it
-pub piece_more : (asked : Distances) (t : Table) (level piece fillings start count step : ℕ) (first : List ℕ) (a b c : Nearest) → level ≤ 24 → start % 4096 ≡ part_of piece * 64 → sum first ≡ level - piece % 25 → rank_of first ≡ start
-    → count ≡ min (fillings - start) 64 → step ≡ 4096 → ((p : List ℕ) → IsOfPiece piece (level - piece % 25) p → other_filling p < fillings) → Looks asked t level (λ p. (piece_of p ≡ piece) × (other_filling p < start)) a b
-    → Looks asked t level (InTile (sum first) (rank_of first) count) b c → Looks asked t level (λ p. (piece_of p ≡ piece) × (other_filling p < start + step)) a c
-piece_more asked t level piece fillings start count step first a b c low place stones ranked long far few before here =
-    Looks-then asked t level (λ p. (piece_of p ≡ piece) × (other_filling p < start)) (InTile (sum first) (rank_of first) count) (λ p. (piece_of p ≡ piece) × (other_filling p < start + step)) a b c before here covers
+pub piece_more : (t : Table) (level piece fillings start count step : ℕ) (first : List ℕ) (a b c : Nearest) → level ≤ 24 → start % 4096 ≡ part_of piece * 64 → sum first ≡ level - piece % 25 → rank_of first ≡ start
+    → count ≡ min (fillings - start) 64 → step ≡ 4096 → ((p : List ℕ) → IsOfPiece piece (level - piece % 25) p → other_filling p < fillings) → Looks t level (λ p. (piece_of p ≡ piece) × (other_filling p < start)) a b
+    → Looks t level (InTile (sum first) (rank_of first) count) b c → Looks t level (λ p. (piece_of p ≡ piece) × (other_filling p < start + step)) a c
+piece_more t level piece fillings start count step first a b c low place stones ranked long far few before here =
+    Looks-then t level (λ p. (piece_of p ≡ piece) × (other_filling p < start)) (InTile (sum first) (rank_of first) count) (λ p. (piece_of p ≡ piece) × (other_filling p < start + step)) a b c before here covers
   where
     covers : (p : List ℕ) → IsBoard p → sum p ≡ level → (piece_of p ≡ piece) × (other_filling p < start + step) → ((piece_of p ≡ piece) × (other_filling p < start)) ⊎ InTile (sum first) (rank_of first) count p
     covers p is_board level_stones (is, some) =

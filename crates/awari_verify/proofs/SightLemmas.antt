@@ -4,13 +4,11 @@ use Rattle.std.proofs.lemmas.Bool.{false≢true, cases_lt}
 use Rattle.std.proofs.lemmas.List.{get_or_default, get_or_past}
 use Rattle.awari_board.specs.Rules.{IsLegal, IsMove, IsEnd}
 use Rattle.awari_board.specs.Rules.{IsEnded}
-use Rattle.awari_table.specs.Certificate.{Table, InRange, EndIsRight, HasPlan, NoMoveGainsMore, PlanGains, plies, GainsIn, GainsNoSooner, MovesIn, MovesNoLater, DistancesFall, DistancesAreLeast, DistancesAre}
-use Rattle.awari_table.specs.declared.rules.Distances.{Distances}
-use Rattle.awari_table.specs.declared.rules.Distances.TheVariants.{Falling, Least}
+use Rattle.awari_table.specs.Certificate.{Table, InRange, EndIsRight, HasPlan, NoMoveGainsMore, PlanGains, plies, GainsIn, GainsNoSooner, MovesIn, MovesNoLater, DistancesAreLeast}
 use Rattle.awari_table.specs.Reached.{Reaches, gain_of}
 use Rattle.awari_table.specs.declared.rules.Reached.{Reached}
 use Rattle.awari_verify.specs.declared.rules.Seen.{Seen}
-use Rattle.awari_verify.specs.Sights.{SeesEnd, Sees, move_at, IsNearer, KeepsRange, KeepsEnd, KeepsPlan, KeepsGain, KeepsPlanGain, KeepsFalling, GainsJustIn, KeepsWon, KeepsLost, KeepsLeast, KeepsDistance}
+use Rattle.awari_verify.specs.Sights.{SeesEnd, Sees, move_at, IsNearer, KeepsRange, KeepsEnd, KeepsPlan, KeepsGain, KeepsPlanGain, GainsJustIn, KeepsWon, KeepsLost, KeepsLeast}
 
 -- each pit is seen
 abbrev pub SeesMoves : Table → List ℕ → List (Option Reached) → Type 0
@@ -36,11 +34,11 @@ pub SeesEnd-end : (p : List ℕ) (o : Option ℤ) → IsNone o ↔ ((x : ℕ) ×
 SeesEnd-end p None none some = λ ended. let legal = none.0 refl in ended legal.0 legal.1
 SeesEnd-end p (Some g) none some = (some g).0 refl
 
-none_from_open : (p : List ℕ) (o : Option ℤ) → SeesEnd p o → (IsEnded p → ⊥) → IsNone o
+pub none_from_open : (p : List ℕ) (o : Option ℤ) → SeesEnd p o → (IsEnded p → ⊥) → IsNone o
 none_from_open p None sees more = refl
 none_from_open p (Some g) sees more = absurd (more sees.stuck)
 
-open_from_none : (p : List ℕ) (o : Option ℤ) → SeesEnd p o → IsNone o → IsEnded p → ⊥
+pub open_from_none : (p : List ℕ) (o : Option ℤ) → SeesEnd p o → IsNone o → IsEnded p → ⊥
 open_from_none p None sees none = sees
 open_from_none p (Some g) sees none = absurd (false≢true (sym none))
 
@@ -78,7 +76,7 @@ move_any t p P Q says x (Some m) sees = (
   λ k. (says x m sees.0 sees.2 sees.3).1 (k m.captured sees.0 sees.1),
 )
 
-moves_any : (t : Table) (p : List ℕ) (P : Reached → Type 0) (Q : ℕ → ℕ → List ℕ → Type 0) → Says t p P Q → (moves : List (Option Reached)) → length moves ≡ 6 → SeesMoves t p moves → All (λ o. IfSome o P) moves ↔ ((x c : ℕ) (q : List ℕ) → IsMove p x c q → Q x c q)
+pub moves_any : (t : Table) (p : List ℕ) (P : Reached → Type 0) (Q : ℕ → ℕ → List ℕ → Type 0) → Says t p P Q → (moves : List (Option Reached)) → length moves ≡ 6 → SeesMoves t p moves → All (λ o. IfSome o P) moves ↔ ((x c : ℕ) (q : List ℕ) → IsMove p x c q → Q x c q)
 moves_any t p P Q says moves six sees = (
   λ k x c q move. (move_any t p P Q says x (get_or moves x None) (sees x move.legal.own)).0 (k x None (let own = move.legal.own in omega arith)) c q move,
   λ k x d lt. let within : x < 6 = omega arith in rw (get_or_default moves x d None lt) ((move_any t p P Q says x (get_or moves x None) (sees x within)).1 (k x)),
@@ -102,7 +100,7 @@ pub plan_gain-iff : (t : Table) (p : List ℕ) (s : Seen) → Sees t p s → Kee
 plan_gain-iff t p s h =
     rw (← h.value, ← h.plan) (planned_any t p (λ m. gain_of m ≡ s.entry.value) (λ x c q. (pos c -ℤ t.value q) ≡ s.entry.value) (λ x m q v d. rw v (λ k. k, λ k. k)) s.moves s.entry.plan h.six h.moves)
 
-nearer-says : (t : Table) (p : List ℕ) (dist : ℕ) → Says t p (λ m. IsNearer m dist) (λ x c q. (0 < c) ⊎ (t.dist q < dist))
+pub nearer-says : (t : Table) (p : List ℕ) (dist : ℕ) → Says t p (λ m. IsNearer m dist) (λ x c q. (0 < c) ⊎ (t.dist q < dist))
 nearer-says t p dist x m q v d = go m.captured d
   where
     go : (c : ℕ) → m.plies ≡ plies c (t.dist q) → ((0 < c) ⊎ (m.plies ≤ dist)) ↔ ((0 < c) ⊎ (t.dist q < dist))
@@ -112,34 +110,9 @@ nearer-says t p dist x m q v d = go m.captured d
     )
     go (suc c) is = (λ k. inl (omega arith), λ k. inl (omega arith))
 
-winning_any : (t : Table) (p : List ℕ) (s : Seen) → Sees t p s → IfSome (move_at s.moves s.entry.plan) (λ m. IsNearer m s.entry.dist) ↔ ((x c : ℕ) (q : List ℕ) → s.entry.plan ≡ Some x → IsMove p x c q → (0 < c) ⊎ (t.dist q < s.entry.dist))
+pub winning_any : (t : Table) (p : List ℕ) (s : Seen) → Sees t p s → IfSome (move_at s.moves s.entry.plan) (λ m. IsNearer m s.entry.dist) ↔ ((x c : ℕ) (q : List ℕ) → s.entry.plan ≡ Some x → IsMove p x c q → (0 < c) ⊎ (t.dist q < s.entry.dist))
 winning_any t p s h =
     planned_any t p (λ m. IsNearer m s.entry.dist) (λ x c q. (0 < c) ⊎ (t.dist q < s.entry.dist)) (nearer-says t p s.entry.dist) s.moves s.entry.plan h.six h.moves
-
-losing_any : (t : Table) (p : List ℕ) (s : Seen) → Sees t p s → All (λ o. IfSome o (λ m. IsNearer m s.entry.dist)) s.moves ↔ ((x : ℕ) (q : List ℕ) → IsMove p x 0 q → t.dist q < s.entry.dist)
-losing_any t p s h =
-    let e = moves_any t p (λ m. IsNearer m s.entry.dist) (λ x c q. (0 < c) ⊎ (t.dist q < s.entry.dist)) (nearer-says t p s.entry.dist) s.moves h.six h.moves in (
-      λ k x q move. elim (e.0 k x 0 q move) [ inl up ↦ absurd (omega arith) | inr down ↦ down ],
-      λ k. e.1 (λ x c q move. elim (cases_lt 0 c) [ inl up ↦ inl up | inr none ↦ let zero_c : c ≡ 0 = omega arith in inr (k x q (rw zero_c at move)) ]),
-    )
-
-falling_from : (t : Table) (p : List ℕ) (s : Seen) → Sees t p s → KeepsFalling s → DistancesFall t p
-falling_from t p s h k = record {
-  even = rw (← h.value, ← h.dist) k.0;
-  uneven = rw (← h.value, ← h.dist) (λ more uneven. k.1 (none_from_open p s.end h.at_end more) uneven);
-  winning = rw (← h.value, ← h.plan, ← h.dist) (λ up. (winning_any t p s h).0 (k.2 up));
-  losing = rw (← h.value, ← h.dist) (λ down. (losing_any t p s h).0 (k.3 down));
-}
-
-falling_to : (t : Table) (p : List ℕ) (s : Seen) → Sees t p s → DistancesFall t p → KeepsFalling s
-falling_to t p s h k =
-    let winning : pos 0 <ℤ s.entry.value → (x c : ℕ) (q : List ℕ) → s.entry.plan ≡ Some x → IsMove p x c q → (0 < c) ⊎ (t.dist q < s.entry.dist) = rw (h.value, h.plan, h.dist) k.winning in
-    let losing : s.entry.value <ℤ pos 0 → (x : ℕ) (q : List ℕ) → IsMove p x 0 q → t.dist q < s.entry.dist = rw (h.value, h.dist) k.losing in (
-      rw (h.value, h.dist) k.even,
-      λ none uneven. rw h.dist (k.uneven (open_from_none p s.end h.at_end none) (rw (← h.value) uneven)),
-      λ up. (winning_any t p s h).1 (winning up),
-      λ down. (losing_any t p s h).1 (losing down),
-    )
 
 -- some move is seen, where there is one
 moves_some : (t : Table) (p : List ℕ) (P : Reached → Type 0) (Q : ℕ → ℕ → List ℕ → Type 0) → Says t p P Q → (moves : List (Option Reached)) → length moves ≡ 6 → SeesMoves t p moves
@@ -212,6 +185,5 @@ least_to t p s h k =
       λ up. (winning_any t p s h).1 (winning up),
     )
 
-pub distance-iff : (asked : Distances) (t : Table) (p : List ℕ) (s : Seen) → Sees t p s → KeepsDistance asked s ↔ DistancesAre asked t p
-distance-iff Falling t p s h = (falling_from t p s h, falling_to t p s h)
-distance-iff Least t p s h = (least_from t p s h, least_to t p s h)
+pub least-iff : (t : Table) (p : List ℕ) (s : Seen) → Sees t p s → KeepsLeast s ↔ DistancesAreLeast t p
+least-iff t p s h = (least_from t p s h, least_to t p s h)

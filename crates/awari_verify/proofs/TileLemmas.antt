@@ -7,17 +7,10 @@ use Rattle.awari_board.specs.Rules.{IsBoard, own_stones, turned}
 use Rattle.awari_rank.specs.Fillings.{none}
 use Rattle.awari_rank.specs.Rank.{rank_of}
 use Rattle.awari_table.specs.Certificate.{Table}
-use Rattle.awari_table.specs.Shelves.{highest_by}
-use Rattle.awari_table.specs.declared.rules.Distances.{Distances}
-use Rattle.awari_table.specs.declared.rules.Distances.TheVariants.{Falling, Least}
 use Rattle.awari_verify.specs.Pieces.{own_filling, InRun, InTile, Looks}
 use Rattle.awari_verify.specs.declared.pieces.Nearest.{Nearest}
 use Rattle.awari_verify.proofs.FillingLemmas.{tile_run}
 use Rattle.awari_verify.proofs.LookLemmas.{Looks-then}
-
-pub highest_low : (asked : Distances) → highest_by asked ≤ 24
-highest_low Falling = omega arith
-highest_low Least = omega arith
 
 -- six pits and six empty ones
 pub record IsFilled (half : List ℕ) : Type 0 where
@@ -49,11 +42,11 @@ pub own_rest : (p : List ℕ) (level others : ℕ) → sum p ≡ level → sum (
 own_rest p level others stones rest = omega (arith, stones, rest, sum_by-take-drop (λ x. x) p 6)
 
 -- one run more
-pub tile_more : (asked : Distances) (t : Table) (level count done : ℕ) (filling first run : List ℕ) (a b c : Nearest) → IsBoard filling → IsBoard first → own_stones first ≡ 0 → sum filling ≡ level - sum first → rank_of filling ≡ done
-    → run ≡ take 6 (turned filling) ++ drop 6 first → Looks asked t level (λ p. InTile (sum first) (rank_of first) count p × (own_filling p < done)) a b → Looks asked t level (InRun (rank_of run) count) b c
-    → Looks asked t level (λ p. InTile (sum first) (rank_of first) count p × (own_filling p < done + 1)) a c
-tile_more asked t level count done filling first run a b c board board' empty stones is joined before here =
-    Looks-then asked t level (λ p. InTile (sum first) (rank_of first) count p × (own_filling p < done)) (InRun (rank_of run) count) (λ p. InTile (sum first) (rank_of first) count p × (own_filling p < done + 1)) a b c before here covers
+pub tile_more : (t : Table) (level count done : ℕ) (filling first run : List ℕ) (a b c : Nearest) → IsBoard filling → IsBoard first → own_stones first ≡ 0 → sum filling ≡ level - sum first → rank_of filling ≡ done
+    → run ≡ take 6 (turned filling) ++ drop 6 first → Looks t level (λ p. InTile (sum first) (rank_of first) count p × (own_filling p < done)) a b → Looks t level (InRun (rank_of run) count) b c
+    → Looks t level (λ p. InTile (sum first) (rank_of first) count p × (own_filling p < done + 1)) a c
+tile_more t level count done filling first run a b c board board' empty stones is joined before here =
+    Looks-then t level (λ p. InTile (sum first) (rank_of first) count p × (own_filling p < done)) (InRun (rank_of run) count) (λ p. InTile (sum first) (rank_of first) count p × (own_filling p < done + 1)) a b c before here covers
   where
     covers : (p : List ℕ) → IsBoard p → sum p ≡ level → InTile (sum first) (rank_of first) count p × (own_filling p < done + 1) → (InTile (sum first) (rank_of first) count p × (own_filling p < done)) ⊎ InRun (rank_of run) count p
     covers p is_board level_stones (tile, some) =

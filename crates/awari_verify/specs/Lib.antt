@@ -3,3 +3,4 @@ pub mod Rule
 pub mod FirstFailure
 pub mod VerifyFault
 pub mod Pieces
+pub mod Older

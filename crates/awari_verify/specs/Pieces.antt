@@ -3,9 +3,7 @@ use Rattle.std.specs.Prelude.{◌≡◌, true, false, slice_index_or, ℕ, ◌+�
 use Rattle.awari_board.specs.Rules.{IsBoard, own_stones}
 use Rattle.awari_rank.specs.Fillings.{none}
 use Rattle.awari_rank.specs.Rank.{rank_of, size_of}
-use Rattle.awari_table.specs.declared.rules.Distances.{Distances}
-use Rattle.awari_table.specs.declared.rules.Distances.TheVariants.{Least}
-use Rattle.awari_table.specs.Certificate.{Table, IsRightBy}
+use Rattle.awari_table.specs.Certificate.{Table, DistancesAreLeast, IsRight}
 use Rattle.awari_verify.specs.FirstFailure.{BreaksFirst}
 use Rattle.awari_verify.specs.declared.rules.Rule.{Rule}
 use Rattle.awari_verify.specs.declared.pieces.Nearest.{Nearest}
@@ -44,23 +42,23 @@ abbrev pub InTile : ℕ → ℕ → ℕ → List ℕ → Type 0
 InTile others first count p = (sum (drop 6 p) ≡ others) × (first ≤ other_filling p) × (other_filling p < first + count)
 
 -- a board of the level with this rank breaks this rule first
-pub record IsBreach (asked : Distances) (t : Table) (level rank : ℕ) (rule : Rule) : Type 0 where
+pub record IsBreach (t : Table) (level rank : ℕ) (rule : Rule) : Type 0 where
   pub board : List ℕ
   pub is_board : IsBoard board
   pub stones : sum board ≡ level
   pub ranked : rank_of board ≡ rank
-  pub breaks : BreaksFirst asked t board rule
+  pub breaks : BreaksFirst DistancesAreLeast t board rule
 
 -- the rank is the end while no breach is known, and else that of one before the end
-abbrev pub IsKnown : Distances → Table → ℕ → ℕ → Nearest → Type 0
-IsKnown asked t level end nearest = MatchOption nearest.rule (nearest.rank ≡ end) (λ rule. (nearest.rank < end) × IsBreach asked t level nearest.rank rule)
+abbrev pub IsKnown : Table → ℕ → ℕ → Nearest → Type 0
+IsKnown t level end nearest = MatchOption nearest.rule (nearest.rank ≡ end) (λ rule. (nearest.rank < end) × IsBreach t level nearest.rank rule)
 
 -- the boards of the level that are in here were looked at: those before the nearest breach are right
-pub record Looks (asked : Distances) (t : Table) (level : ℕ) (In : List ℕ → Type 0) (old new : Nearest) : Type 0 where
+pub record Looks (t : Table) (level : ℕ) (In : List ℕ → Type 0) (old new : Nearest) : Type 0 where
   pub nearer : new.rank ≤ old.rank
-  pub known : (end : ℕ) → IsKnown asked t level end old → IsKnown asked t level end new
-  pub right : (p : List ℕ) → IsBoard p → sum p ≡ level → In p → rank_of p < new.rank → IsRightBy asked t p
+  pub known : (end : ℕ) → IsKnown t level end old → IsKnown t level end new
+  pub right : (p : List ℕ) → IsBoard p → sum p ≡ level → In p → rank_of p < new.rank → IsRight t p
 
 -- those pieces of the level were looked at that the share names, and this is the nearest breach in them
 abbrev pub IsShare : Table → ℕ → Share → Type 0
-IsShare t level share = Looks Least t level (λ p. slice_index_or share.seen (piece_of p) false ≡ true) (record { rank = size_of level; rule = None }) share.nearest
+IsShare t level share = Looks t level (λ p. slice_index_or share.seen (piece_of p) false ≡ true) (record { rank = size_of level; rule = None }) share.nearest

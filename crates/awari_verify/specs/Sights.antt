@@ -1,11 +1,9 @@
 -- What is seen of a board by a table, and which rules it keeps. Private functions alone go by this.
-use Rattle.std.specs.Prelude.{◌≡◌, ◌≢◌, ℕ, ◌<◌, ◌≤◌, ◌⊎◌, List, length, sum, ℤ, pos, neg_ℤ, ◌≤ℤ◌, ◌<ℤ◌, Option, Some, None, IfSome, IsSome, IsSomeAnd, IsNone, All, Any, slice_index_or}
+use Rattle.std.specs.Prelude.{◌≡◌, ℕ, ◌<◌, ◌≤◌, ◌⊎◌, List, length, sum, ℤ, pos, neg_ℤ, ◌≤ℤ◌, ◌<ℤ◌, Option, Some, None, IfSome, IsSome, IsSomeAnd, IsNone, All, Any, slice_index_or}
 use Rattle.awari_board.specs.Rules.{IsEnd, IsEnded}
 use Rattle.awari_table.specs.Certificate.{Table}
 use Rattle.awari_table.specs.Reached.{Reaches, gain_of}
 use Rattle.awari_table.specs.declared.rules.Reached.{Reached}
-use Rattle.awari_table.specs.declared.rules.Distances.{Distances}
-use Rattle.awari_table.specs.declared.rules.Distances.TheVariants.{Falling, Least}
 use Rattle.awari_verify.specs.declared.rules.Seen.{Seen}
 
 -- the gain of the board's end, or none where it is not ended
@@ -53,17 +51,8 @@ KeepsPlanGain s = IfSome (planned_of s) (λ m. gain_of m ≡ s.entry.value)
 abbrev pub KeepsEven : Seen → Type 0
 KeepsEven s = s.entry.value ≡ pos 0 → s.entry.dist ≡ 0
 
-abbrev pub KeepsUneven : Seen → Type 0
-KeepsUneven s = IsNone s.end → s.entry.value ≢ pos 0 → 1 ≤ s.entry.dist
-
 abbrev pub KeepsWinning : Seen → Type 0
 KeepsWinning s = pos 0 <ℤ s.entry.value → IfSome (planned_of s) (λ m. IsNearer m s.entry.dist)
-
-abbrev pub KeepsLosing : Seen → Type 0
-KeepsLosing s = s.entry.value <ℤ pos 0 → All (λ o. IfSome o (λ m. IsNearer m s.entry.dist)) s.moves
-
-abbrev pub KeepsFalling : Seen → Type 0
-KeepsFalling s = KeepsEven s × KeepsUneven s × KeepsWinning s × KeepsLosing s
 
 -- a move that gains the value in this many plies
 abbrev pub GainsJustIn : ℤ → ℕ → Reached → Type 0
@@ -81,7 +70,3 @@ KeepsLost s =
 
 abbrev pub KeepsLeast : Seen → Type 0
 KeepsLeast s = KeepsEven s × KeepsWon s × KeepsLost s × KeepsWinning s
-
-abbrev pub KeepsDistance : Distances → Seen → Type 0
-KeepsDistance Falling s = KeepsFalling s
-KeepsDistance Least s = KeepsLeast s

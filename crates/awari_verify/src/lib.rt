@@ -24,6 +24,7 @@
 #![tactic(auto)]
 
 mod laws;
+mod older;
 mod parallel;
 mod pieces;
 mod rules;
@@ -33,6 +34,7 @@ mod sights;
 mod verdicts;
 
 pub use laws::one_fault_is_due;
+pub use older::{one_old_fault_is_due, verify_old};
 pub use parallel::{fault_beside, fault_of_parallel, verify_parallel};
 pub use rules::{Rule, Seen, first_broken_rule};
-pub use verdicts::{VerifyFault, fault_of, verify, verify_old};
+pub use verdicts::{VerifyFault, fault_of, verify};

@@ -1,24 +1,24 @@
 //! The first refusal of a level, looked for by as many threads as there are processors.
 
-ghost use Rattle.std.specs.Prelude.{◌≡◌, ◌⊎◌, ◌++◌, ◌∷◌, [], IsOk, IfOk, IfErr, IfSome, IsNone, MatchOption};
+ghost use Rattle.std.specs.Prelude.{◌≡◌, ◌⊎◌, ◌++◌, ◌∷◌, [], IsOk, IfOk, IfErr, IfSome, IsNone};
 ghost use Rattle.std.specs.List.{All};
 ghost use Rattle.std.specs.Thread.{IsSync};
 ghost use Rattle.awari_rank.specs.Rank.{size_of};
+ghost use Rattle.awari_table.specs.Certificate.{DistancesAreLeast};
 ghost use Rattle.awari_table.specs.Images.{table_of};
 ghost use Rattle.awari_table.specs.Shelves.{Consistent};
 ghost use Rattle.awari_theory.specs.Truth.{TellsTruth};
 ghost use Rattle.awari_verify.specs.VerifyFault.{IsShaped, IsDue};
-ghost use Rattle.awari_verify.specs.FirstFailure.{RightBetween, IsRefusal};
+ghost use Rattle.awari_verify.specs.FirstFailure.{IsFirst};
 ghost use Rattle.awari_verify.specs.Pieces.{IsShare};
 ghost use Rattle.awari_verify.specs.declared.verdicts.VerifyFault.{VerifyFault};
 
 use crate::pieces::first_refusal;
-use crate::rules::Rule;
 use crate::search::Refusal;
 use crate::shares::{Share, completed, joined, take_pieces, taken_shares};
-use crate::verdicts::{VerifyFault, boards_of};
+use crate::verdicts::{VerifyFault, boards_of, fault_after};
 use awari_rank::size;
-use awari_table::{Distances, Image, Level, Shelf};
+use awari_table::{Image, Level, Shelf};
 use rayon::join;
 use std::alloc::{AllocError, Global};
 use std::sync::atomic::AtomicU64;
@@ -88,24 +88,14 @@ pub fn fault_beside<R: Threads + Sync, X: Send, W: FnOnce() -> X + Send>(
     ensures none { IsNone result.1 → Consistent shelf.now image.now }
     ensures fault { IfSome result.1 (λ fault. (fault ≡ VerifyFault.Memory) ⊎ IsDue shelf.now image.now fault) }
 {
-    match boards_of(Distances::Least, shelf, image) {
+    match boards_of(shelf, image) {
         Ok(_) => {}
         Err(fault) => return (work(), Some(fault)),
     }
     let (done, first) = first_beside(rt, alloc, shelf, image, work);
-    let Ok(first) = first else {
-        return (done, Some(VerifyFault::Memory));
-    };
     match first {
-        Some(Refusal { rank, rule }) => (done, Some(VerifyFault::Refused { rank, rule })),
-        None if image.limit != image.entries.greatest_dist() => {
-            let fault = VerifyFault::Refused {
-                rank: 0,
-                rule: Rule::V7,
-            };
-            (done, Some(fault))
-        }
-        None => (done, None),
+        Ok(first) => (done, fault_after(image, first)),
+        Err(_) => (done, Some(VerifyFault::Memory)),
     }
 }
 
@@ -117,20 +107,15 @@ fn first_beside<R: Threads + Sync, X: Send, W: FnOnce() -> X + Send>(
     image: &Image,
     work: W,
 ) -> (X, Result<Option<Refusal>, AllocError>)
-    requires shaped { IsShaped Distances.Least shelf.now image.now }
+    requires shaped { IsShaped shelf.now image.now }
     requires work { W.pre work }
     ensures work { W.post work result.0 }
-    ensures first { IfOk result.1 (λ first. MatchOption first
-        (RightBetween Distances.Least (table_of (shelf.now ++ image.now ∷ [])) image.now.level 0 (size_of image.now.level))
-        (λ r. IsRefusal Distances.Least (table_of (shelf.now ++ image.now ∷ [])) image.now.level 0 (size_of image.now.level) r.rank r.rule)) }
+    ensures first { IfOk result.1 (IsFirst DistancesAreLeast (table_of (shelf.now ++ image.now ∷ [])) image.now.level 0 (size_of image.now.level)) }
 {
     let boards = size(image.level);
     if boards < SHARED {
         let done = work();
-        return (
-            done,
-            Ok(first_refusal(Distances::Least, shelf, image, boards)),
-        );
+        return (done, Ok(first_refusal(shelf, image, boards)));
     }
     let (done, share) = share_beside(rt, alloc, shelf, image, work);
     match share {
@@ -147,7 +132,7 @@ fn share_beside<R: Threads + Sync, X: Send, W: FnOnce() -> X + Send>(
     image: &Image,
     work: W,
 ) -> (X, Result<Share, AllocError>)
-    requires shaped { IsShaped Distances.Least shelf.now image.now }
+    requires shaped { IsShaped shelf.now image.now }
     requires work { W.pre work }
     ensures work { W.post work result.0 }
     ensures share { IfOk result.1 (IsShare (table_of (shelf.now ++ image.now ∷ [])) image.now.level) }
@@ -156,14 +141,14 @@ fn share_beside<R: Threads + Sync, X: Send, W: FnOnce() -> X + Send>(
     let ((done, own), shares) = join(
         rt,
         || -> (X, Share)
-            requires { IsShaped Distances.Least shelf.now image.now × W.pre work }
+            requires { IsShaped shelf.now image.now × W.pre work }
             ensures { W.post work result.0 × IsShare (table_of (shelf.entry.now ++ image.entry.now ∷ [])) image.entry.now.level result.1 }
         {
             let done = work();
             (done, take_pieces(shelf, image, &turn))
         },
         || -> Result<Vec<Share>, AllocError>
-            requires { IsSync R.row × IsShaped Distances.Least shelf.now image.now }
+            requires { IsSync R.row × IsShaped shelf.now image.now }
             ensures { IfOk result (λ shares. All (IsShare (table_of (shelf.entry.now ++ image.entry.now ∷ [])) image.entry.now.level) shares.items) }
         { taken_shares(rt, alloc, shelf, image, &turn) },
     );

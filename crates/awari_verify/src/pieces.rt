@@ -5,20 +5,21 @@
 //! boards that have both. A move turns the board, so what they lead to has the few fillings in front,
 //! and lies in few places, which the cache holds.
 
-ghost use Rattle.std.specs.Prelude.{◌≡◌, ◌↔◌, ℕ, ◌+◌, ◌*◌, ◌≤◌, ◌<◌, ◌++◌, ◌∷◌, [], List, sum, take, drop, None, MatchOption, nat_lt, if◌then◌else◌};
+ghost use Rattle.std.specs.Prelude.{◌≡◌, ◌↔◌, ℕ, ◌+◌, ◌*◌, ◌≤◌, ◌<◌, ◌++◌, ◌∷◌, [], List, sum, take, drop, None, nat_lt, if◌then◌else◌};
 ghost use Rattle.awari_board.specs.Rules.{IsBoard, own_stones, turned};
 ghost use Rattle.awari_rank.specs.Rank.{rank_of, size_of};
+ghost use Rattle.awari_table.specs.Certificate.{DistancesAreLeast};
 ghost use Rattle.awari_table.specs.Images.{table_of};
 ghost use Rattle.awari_verify.specs.VerifyFault.{IsShaped};
 ghost use Rattle.awari_verify.specs.Pieces.{piece_of, refusal_of, Looks, InRun, InTile};
-ghost use Rattle.awari_verify.specs.FirstFailure.{RightBetween, IsRefusal};
+ghost use Rattle.awari_verify.specs.FirstFailure.{IsFirst};
 
 use crate::rules::Rule;
 use crate::search::{Refusal, refusal_from};
 use awari_board::Board;
 use awari_packed::PackedBoard;
 use awari_rank::{rank, size};
-use awari_table::{Distances, Image, Shelf};
+use awari_table::{Image, Shelf};
 
 /// How many fillings of pits 6 to 11 a tile has.
 const TILE: u32 = 64;
@@ -83,32 +84,24 @@ struct Run {
 }
 
 /// The first refusal of a level, whose pieces are looked at one after the other.
-pub fn first_refusal(asked: Distances, shelf: &Shelf, image: &Image, boards: u32) -> Option<Refusal>
-    requires shaped { IsShaped asked shelf.now image.now }
+pub fn first_refusal(shelf: &Shelf, image: &Image, boards: u32) -> Option<Refusal>
+    requires shaped { IsShaped shelf.now image.now }
     requires sized { boards ≡ size_of image.now.level }
-    ensures { MatchOption result
-        (RightBetween asked (table_of (shelf.now ++ image.now ∷ [])) image.now.level 0 boards)
-        (λ r. IsRefusal asked (table_of (shelf.now ++ image.now ∷ [])) image.now.level 0 boards r.rank r.rule) }
+    ensures { IsFirst DistancesAreLeast (table_of (shelf.now ++ image.now ∷ [])) image.now.level 0 boards result }
 {
     let mut found = Nearest::none(boards);
     for piece in 0..PIECES {
-        found = look_in_piece(asked, shelf, image, piece, found);
+        found = look_in_piece(shelf, image, piece, found);
     }
     found.refusal()
 }
 
 /// Looks for a refusal among the boards of this piece. Those behind the nearest one known are left out.
-pub fn look_in_piece(
-    asked: Distances,
-    shelf: &Shelf,
-    image: &Image,
-    piece: u32,
-    nearest: Nearest,
-) -> Nearest
-    requires shaped { IsShaped asked shelf.now image.now }
+pub fn look_in_piece(shelf: &Shelf, image: &Image, piece: u32, nearest: Nearest) -> Nearest
+    requires shaped { IsShaped shelf.now image.now }
     requires piece { piece < PIECES }
     requires within { nearest.rank ≤ size_of image.now.level }
-    ensures { Looks asked (table_of (shelf.now ++ image.now ∷ [])) image.now.level (λ p. piece_of p ≡ piece) nearest result }
+    ensures { Looks (table_of (shelf.now ++ image.now ∷ [])) image.now.level (λ p. piece_of p ≡ piece) nearest result }
 {
     let own = piece % OWN;
     if own as u8 > image.level {
@@ -124,26 +117,20 @@ pub fn look_in_piece(
             first: PackedBoard::unrank(stones, start as u32),
             count: (fillings - start as u32).min(TILE),
         };
-        found = look_in_tile(asked, shelf, image, &tile, found);
+        found = look_in_tile(shelf, image, &tile, found);
         start += u64::from(PARTS * TILE);
     }
     found
 }
 
 /// Looks for one among the boards that have one of these fillings in pits 6 to 11.
-fn look_in_tile(
-    asked: Distances,
-    shelf: &Shelf,
-    image: &Image,
-    tile: &Run,
-    nearest: Nearest,
-) -> Nearest
-    requires shaped { IsShaped asked shelf.now image.now }
+fn look_in_tile(shelf: &Shelf, image: &Image, tile: &Run, nearest: Nearest) -> Nearest
+    requires shaped { IsShaped shelf.now image.now }
     requires board { IsBoard tile.now.first }
     requires few { sum tile.now.first ≤ image.now.level }
     requires filling { own_stones tile.now.first ≡ 0 }
     requires within { nearest.rank ≤ size_of image.now.level }
-    ensures { Looks asked (table_of (shelf.now ++ image.now ∷ [])) image.now.level (InTile (sum tile.now.first) (rank_of tile.now.first) tile.now.count) nearest result }
+    ensures { Looks (table_of (shelf.now ++ image.now ∷ [])) image.now.level (InTile (sum tile.now.first) (rank_of tile.now.first) tile.now.count) nearest result }
 {
     let own = image.level - tile.first.stones();
     let count = fillings(own);
@@ -154,29 +141,23 @@ fn look_in_tile(
             first: filled(&filling, &tile.first),
             count: tile.count,
         };
-        found = look_in_run(asked, shelf, image, &run, found);
+        found = look_in_run(shelf, image, &run, found);
         filling = following(&filling);
     }
     found
 }
 
 /// Looks for one among the boards of a run.
-fn look_in_run(
-    asked: Distances,
-    shelf: &Shelf,
-    image: &Image,
-    run: &Run,
-    nearest: Nearest,
-) -> Nearest
-    requires shaped { IsShaped asked shelf.now image.now }
+fn look_in_run(shelf: &Shelf, image: &Image, run: &Run, nearest: Nearest) -> Nearest
+    requires shaped { IsShaped shelf.now image.now }
     requires board { IsBoard run.now.first }
     requires stones { sum run.now.first ≡ image.now.level }
     requires within { nearest.rank ≤ size_of image.now.level }
-    ensures { Looks asked (table_of (shelf.now ++ image.now ∷ [])) image.now.level (InRun (rank_of run.now.first) run.now.count) nearest result }
+    ensures { Looks (table_of (shelf.now ++ image.now ∷ [])) image.now.level (InRun (rank_of run.now.first) run.now.count) nearest result }
 {
     let low = run.first.rank();
     let high = low + nearest.rank.saturating_sub(low).min(run.count);
-    match refusal_from(asked, shelf, image, &run.first, high) {
+    match refusal_from(shelf, image, &run.first, high) {
         Some(Refusal { rank, rule }) => Nearest {
             rank,
             rule: Some(rule),
@@ -199,7 +180,7 @@ fn filled(own: &PackedBoard, other: &PackedBoard) -> PackedBoard
 }
 
 /// The board of the next rank, or this one if it is the last.
-fn following(board: &PackedBoard) -> PackedBoard
+pub fn following(board: &PackedBoard) -> PackedBoard
     requires { IsBoard board.now }
     ensures board { IsBoard result }
     ensures stones { sum result ≡ sum board.now }

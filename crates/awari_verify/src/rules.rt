@@ -1,13 +1,13 @@
 //! The rules of a table, judged of what was seen of one board.
 
 ghost use Rattle.std.specs.Prelude.{◌≡◌, ◌≤◌, ◌↔◌, ℕ, List, IsTrue, IfSome, IsSomeAnd, All, Any, MatchOption};
-ghost use Rattle.awari_table.specs.Certificate.{Table, IsRightBy};
+ghost use Rattle.awari_table.specs.Certificate.{DistancesAreLeast, Table, IsRight, IsRightBy};
 ghost use Rattle.awari_table.specs.Reached.{gain_of};
-ghost use Rattle.awari_verify.specs.Sights.{Sees, planned_of, IsNearer, KeepsRange, KeepsEnd, KeepsPlan, KeepsGain, KeepsPlanGain, KeepsEven, KeepsUneven, KeepsWinning, KeepsLosing, KeepsFalling, GainsJustIn, KeepsWon, KeepsLost, KeepsLeast, KeepsDistance};
-ghost use Rattle.awari_verify.specs.FirstFailure.{BreaksFirst};
+ghost use Rattle.awari_verify.specs.Sights.{Sees, planned_of, IsNearer, KeepsRange, KeepsEnd, KeepsPlan, KeepsGain, KeepsPlanGain, KeepsEven, KeepsWinning, GainsJustIn, KeepsWon, KeepsLost, KeepsLeast};
+ghost use Rattle.awari_verify.specs.FirstFailure.{BreaksFirst, Nothing};
 
 use awari_board::SIDE;
-use awari_table::{Distances, Entry, Reached};
+use awari_table::{Entry, Reached};
 use std::fmt;
 
 /// The rules of a table, in the order in which they are judged. V1 to V6 are judged of each board,
@@ -28,10 +28,6 @@ pub enum Rule {
     /// the fewest plies of a move that gains its value, and a lost one the most plies of any move. A
     /// capture takes one ply, and a quiet move one more than the distance that it leads to. The plan
     /// of a won board captures or goes to a smaller distance.
-    ///
-    /// The older rule asks less. A board of value 0 has distance 0, and any other that is not ended
-    /// at least 1. The plan of a won board captures or goes to a smaller distance. Each quiet move of
-    /// a lost board goes to a smaller distance.
     V6,
     /// The limit is the greatest distance.
     V7,
@@ -81,8 +77,22 @@ impl Seen {
 }
 
 /// The first of V1 to V6 that the board breaks.
-pub fn first_broken_rule(asked: Distances, seen: &Seen) -> Option<Rule>
-    ensures { (t : Table) (p : List ℕ) → Sees t p seen.now → MatchOption result (IsRightBy asked t p) (BreaksFirst asked t p) }
+pub fn first_broken_rule(seen: &Seen) -> Option<Rule>
+    ensures { (t : Table) (p : List ℕ) → Sees t p seen.now → MatchOption result (IsRight t p) (BreaksFirst DistancesAreLeast t p) }
+{
+    if let Some(rule) = first_broken_of_five(seen) {
+        return Some(rule);
+    }
+    if !keeps_least(seen) {
+        return Some(Rule::V6);
+    }
+    None
+}
+
+/// The first of V1 to V5 that the board breaks.
+#[inline(always)]
+pub fn first_broken_of_five(seen: &Seen) -> Option<Rule>
+    ensures { (t : Table) (p : List ℕ) → Sees t p seen.now → MatchOption result (IsRightBy Nothing t p) (BreaksFirst Nothing t p) }
 {
     if !keeps_range(seen) {
         return Some(Rule::V1);
@@ -98,9 +108,6 @@ pub fn first_broken_rule(asked: Distances, seen: &Seen) -> Option<Rule>
     }
     if !keeps_plan_gain(seen) {
         return Some(Rule::V5);
-    }
-    if !keeps_distance(asked, seen) {
-        return Some(Rule::V6);
     }
     None
 }
@@ -153,34 +160,13 @@ fn keeps_plan_gain(seen: &Seen) -> bool
     }
 }
 
-fn keeps_distance(asked: Distances, seen: &Seen) -> bool
-    ensures { IsTrue result ↔ KeepsDistance asked seen.now }
-{
-    match asked {
-        Distances::Falling => keeps_falling(seen),
-        Distances::Least => keeps_least(seen),
-    }
-}
-
-fn keeps_falling(seen: &Seen) -> bool
-    ensures { IsTrue result ↔ KeepsFalling seen.now }
-{
-    keeps_even(seen) && keeps_uneven(seen) && keeps_winning(seen) && keeps_losing(seen)
-}
-
-fn keeps_even(seen: &Seen) -> bool
+pub fn keeps_even(seen: &Seen) -> bool
     ensures { IsTrue result ↔ KeepsEven seen.now }
 {
     seen.entry.value != 0 || seen.entry.dist == 0
 }
 
-fn keeps_uneven(seen: &Seen) -> bool
-    ensures { IsTrue result ↔ KeepsUneven seen.now }
-{
-    seen.end.is_some() || seen.entry.value == 0 || seen.entry.dist > 0
-}
-
-fn keeps_winning(seen: &Seen) -> bool
+pub fn keeps_winning(seen: &Seen) -> bool
     ensures { IsTrue result ↔ KeepsWinning seen.now }
 {
     if seen.entry.value <= 0 {
@@ -190,18 +176,6 @@ fn keeps_winning(seen: &Seen) -> bool
         Some(reached) => is_nearer(&reached, seen.entry.dist),
         None => true,
     }
-}
-
-fn keeps_losing(seen: &Seen) -> bool
-    ensures { IsTrue result ↔ KeepsLosing seen.now }
-{
-    if seen.entry.value >= 0 {
-        return true;
-    }
-    seen.moves.iter().all(|reached| match reached {
-        Some(reached) => is_nearer(reached, seen.entry.dist),
-        None => true,
-    })
 }
 
 fn keeps_least(seen: &Seen) -> bool
@@ -285,7 +259,7 @@ fn planned(seen: &Seen) -> Option<Reached>
 }
 
 /// Whether the move captures, or leads to a board of a smaller distance.
-fn is_nearer(reached: &Reached, dist: u32) -> bool
+pub fn is_nearer(reached: &Reached, dist: u32) -> bool
     ensures { IsTrue result ↔ IsNearer reached.now dist }
 {
     reached.captured > 0 || reached.plies <= u64::from(dist)

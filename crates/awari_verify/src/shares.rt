@@ -4,20 +4,19 @@
 //! is proved rests on who takes which: each thread names the pieces that it has looked at, and [`completed`]
 //! looks at the others.
 
-ghost use Rattle.std.specs.Prelude.{◌≡◌, ◌++◌, ◌∷◌, [], ℕ, IfOk, MatchOption, false, replicate};
+ghost use Rattle.std.specs.Prelude.{◌≡◌, ◌++◌, ◌∷◌, [], ℕ, IfOk, false, replicate};
 ghost use Rattle.std.specs.List.{All};
 ghost use Rattle.awari_rank.specs.Rank.{size_of};
-ghost use Rattle.awari_table.specs.Certificate.{Table};
+ghost use Rattle.awari_table.specs.Certificate.{Table, DistancesAreLeast};
 ghost use Rattle.awari_table.specs.Images.{table_of};
-ghost use Rattle.awari_table.specs.declared.rules.Distances.TheVariants.{Least};
 ghost use Rattle.awari_verify.specs.declared.pieces.TheConstants.{PIECES};
-ghost use Rattle.awari_verify.specs.FirstFailure.{RightBetween, IsRefusal};
+ghost use Rattle.awari_verify.specs.FirstFailure.{IsFirst};
 ghost use Rattle.awari_verify.specs.Pieces.{refusal_of, IsShare};
 ghost use Rattle.awari_verify.specs.VerifyFault.{IsShaped};
 
 use crate::pieces::{Nearest, PIECES, look_in_piece};
 use awari_rank::size;
-use awari_table::{Distances, Image, Shelf};
+use awari_table::{Image, Shelf};
 use rayon::current_num_threads;
 use std::alloc::{AllocError, Global};
 use std::sync::atomic::{AtomicU64, Ordering};
@@ -41,7 +40,7 @@ fn no_pieces() -> [bool; PIECES as usize]
 
 /// Takes pieces in turn and looks for a refusal in each, until none is left.
 pub fn take_pieces(shelf: &Shelf, image: &Image, turn: &AtomicU64) -> Share
-    requires shaped { IsShaped Least shelf.now image.now }
+    requires shaped { IsShaped shelf.now image.now }
     ensures { IsShare (table_of (shelf.now ++ image.now ∷ [])) image.now.level result }
 {
     let mut seen = no_pieces();
@@ -51,7 +50,7 @@ pub fn take_pieces(shelf: &Shelf, image: &Image, turn: &AtomicU64) -> Share
         if piece >= u64::from(PIECES) {
             break;
         }
-        nearest = look_in_piece(Distances::Least, shelf, image, piece as u32, nearest);
+        nearest = look_in_piece(shelf, image, piece as u32, nearest);
         seen[piece as usize] = true;
     }
     Share { seen, nearest }
@@ -65,7 +64,7 @@ pub fn taken_shares<R: Threads + Sync>(
     image: &Image,
     turn: &AtomicU64,
 ) -> Result<Vec<Share>, AllocError>
-    requires shaped { IsShaped Least shelf.now image.now }
+    requires shaped { IsShaped shelf.now image.now }
     ensures { IfOk result (λ shares. All (IsShare (table_of (shelf.now ++ image.now ∷ [])) image.now.level) shares.items) }
 {
     map_indices(
@@ -73,7 +72,7 @@ pub fn taken_shares<R: Threads + Sync>(
         alloc,
         current_num_threads(rt) - 1,
         &|_| -> Share
-            requires { IsShaped Least shelf.now image.now }
+            requires { IsShaped shelf.now image.now }
             ensures { IsShare (table_of (shelf.entry.now ++ image.entry.now ∷ [])) image.entry.now.level result }
         { take_pieces(shelf, image, turn) },
     )
@@ -108,16 +107,14 @@ fn both(first: &Share, second: &Share) -> Share
 
 /// The nearest breach of the level. Pieces that no thread has looked at are looked at here.
 pub fn completed(shelf: &Shelf, image: &Image, share: &Share) -> Nearest
-    requires shaped { IsShaped Least shelf.now image.now }
+    requires shaped { IsShaped shelf.now image.now }
     requires share { IsShare (table_of (shelf.now ++ image.now ∷ [])) image.now.level share.now }
-    ensures { MatchOption (refusal_of result)
-        (RightBetween Least (table_of (shelf.now ++ image.now ∷ [])) image.now.level 0 (size_of image.now.level))
-        (λ r. IsRefusal Least (table_of (shelf.now ++ image.now ∷ [])) image.now.level 0 (size_of image.now.level) r.rank r.rule) }
+    ensures { IsFirst DistancesAreLeast (table_of (shelf.now ++ image.now ∷ [])) image.now.level 0 (size_of image.now.level) (refusal_of result) }
 {
     let mut nearest = share.nearest;
     for piece in 0..PIECES {
         if !share.seen[piece as usize] {
-            nearest = look_in_piece(Distances::Least, shelf, image, piece, nearest);
+            nearest = look_in_piece(shelf, image, piece, nearest);
         }
     }
     nearest

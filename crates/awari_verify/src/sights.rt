@@ -12,14 +12,14 @@ ghost use Rattle.awari_verify.specs.Sights.{Sees, SeesEnd};
 use crate::rules::Seen;
 use awari_board::SIDE;
 use awari_packed::{PackedBoard, PackedMove};
-use awari_table::{Distances, Image, Reached, Shelf};
+use awari_table::{Image, Reached, Shelf};
 
 /// Fills `seen` with what the image says of the board of this rank, and with what image and shelf say
 /// of the boards that its moves lead to. Each is looked up once.
 ///
 /// It is filled in place, since handing it on would copy six moves for each board.
 pub fn see(shelf: &Shelf, image: &Image, board: &PackedBoard, rank: u32, seen: &mut Seen)
-    requires shaped { IsShaped Distances.Least shelf.now image.now }
+    requires shaped { IsShaped shelf.now image.now }
     requires stones { sum board.now ≡ image.now.level }
     requires ranked { rank_of board.now ≡ rank }
     requires below { rank < size_of image.now.level }
@@ -35,7 +35,7 @@ pub fn see(shelf: &Shelf, image: &Image, board: &PackedBoard, rank: u32, seen: &
 
 /// The move of this pit, if it is legal.
 fn reached(shelf: &Shelf, image: &Image, board: &PackedBoard, pit: u8) -> Option<Reached>
-    requires shaped { IsShaped Distances.Least shelf.now image.now }
+    requires shaped { IsShaped shelf.now image.now }
     requires stones { sum board.now ≡ image.now.level }
     ensures { Reaches (table_of (shelf.now ++ image.now ∷ [])) board.now pit result }
 {
@@ -48,7 +48,7 @@ fn reached(shelf: &Shelf, image: &Image, board: &PackedBoard, pit: u8) -> Option
 /// The move as it was played. What a quiet move leads to, the image says. Behind a capture the shelf
 /// says it, and only the value is read there.
 fn reached_by(shelf: &Shelf, image: &Image, moved: &PackedMove) -> Reached
-    requires shaped { IsShaped Distances.Least shelf.now image.now }
+    requires shaped { IsShaped shelf.now image.now }
     requires stones { sum moved.now.board + moved.now.captured ≡ image.now.level }
     ensures captured { result.captured ≡ moved.now.captured }
     ensures value { result.value ≡ (entry_of (shelf.now ++ image.now ∷ []) moved.now.board).value }

@@ -1,18 +1,17 @@
 //! Whether an image may stand as the next level of a shelf.
 
-ghost use Rattle.std.specs.Prelude.{◌≡◌, ◌≤◌, ◌↔◌, [], ◌∷◌, ◌++◌, IsOk, IfOk, IfErr, IsNone, IfSome};
+ghost use Rattle.std.specs.Prelude.{◌≡◌, ◌<◌, ◌↔◌, [], ◌∷◌, ◌++◌, IsOk, IfOk, IfErr, IsNone, IfSome};
 ghost use Rattle.awari_rank.specs.Rank.{size_of};
-ghost use Rattle.awari_table.specs.Images.{greatest_dist};
-ghost use Rattle.awari_table.specs.Shelves.{Consistent, ConsistentBy, IsShelf, highest_by};
+ghost use Rattle.awari_table.specs.Shelves.{Consistent, IsShelf};
 ghost use Rattle.awari_theory.specs.Truth.{TellsTruth};
-ghost use Rattle.awari_verify.specs.VerifyFault.{IsShaped, IsDue, IsDueBy};
+ghost use Rattle.awari_verify.specs.VerifyFault.{IsShaped, IsDue, IsFaultAfter, number_of};
 ghost use Rattle.awari_verify.specs.declared.verdicts.VerifyFault.TheVariants.{Memory};
 
 use crate::pieces::first_refusal;
 use crate::rules::Rule;
 use crate::search::Refusal;
 use awari_rank::size;
-use awari_table::{Distances, HIGHEST_FALLING_LEVEL, HIGHEST_LEVEL, Image, Level, Shelf};
+use awari_table::{HIGHEST_LEVEL, Image, Level, Shelf};
 use std::alloc::AllocError;
 use std::fmt;
 use thiserror::Error;
@@ -33,8 +32,6 @@ pub enum VerifyFault {
 }
 
 impl VerifyFault {
-    ghost use Rattle.awari_verify.specs.VerifyFault.{number_of};
-
     /// The number of this refusal, 20 to 23.
     pub fn number(self) -> u8
         ensures { result ≡ number_of self }
@@ -109,33 +106,18 @@ pub fn fault_of(shelf: &Shelf, image: &Image) -> Option<VerifyFault>
     ensures none { IsNone result ↔ Consistent shelf.now image.now }
     ensures fault { IfSome result (IsDue shelf.now image.now) }
 {
-    fault_by(Distances::Least, shelf, image)
-}
-
-/// Ok if the image is consistent over the shelf by the older rules, which ask of distances that they
-/// fall and not that they are the least. They are for levels up to `HIGHEST_FALLING_LEVEL`. An image
-/// is refused as by [`verify`], but by these rules. It takes no memory.
-pub fn verify_old(shelf: &Shelf, image: &Image) -> Result<(), VerifyFault>
-    ensures ok { IsOk result ↔ ConsistentBy Distances.Falling shelf.now image.now }
-    ensures fault { IfErr result (IsDueBy Distances.Falling shelf.now image.now) }
-{
-    match fault_by(Distances::Falling, shelf, image) {
-        Some(fault) => Err(fault),
-        None => Ok(()),
+    match boards_of(shelf, image) {
+        Ok(boards) => fault_after(image, first_refusal(shelf, image, boards)),
+        Err(fault) => Some(fault),
     }
 }
 
-/// Why the image is not the shelf's next level, if distances have to be as `asked`.
-fn fault_by(asked: Distances, shelf: &Shelf, image: &Image) -> Option<VerifyFault>
-    ensures none { IsNone result ↔ ConsistentBy asked shelf.now image.now }
-    ensures fault { IfSome result (IsDueBy asked shelf.now image.now) }
-    ensures shelf { IsShelf shelf.now }
+/// The fault for this first refusal or, if there is none, for a limit that is not the greatest
+/// distance.
+pub fn fault_after(image: &Image, first: Option<Refusal>) -> Option<VerifyFault>
+    ensures { IsFaultAfter image.now first result }
 {
-    let boards = match boards_of(asked, shelf, image) {
-        Ok(boards) => boards,
-        Err(fault) => return Some(fault),
-    };
-    match first_refusal(asked, shelf, image, boards) {
+    match first {
         Some(Refusal { rank, rule }) => Some(VerifyFault::Refused { rank, rule }),
         None if image.limit != image.entries.greatest_dist() => {
             Some(VerifyFault::Refused {
@@ -148,12 +130,13 @@ fn fault_by(asked: Distances, shelf: &Shelf, image: &Image) -> Option<VerifyFaul
 }
 
 /// The number of boards, if the image is of the shelf's next level and has an entry for each.
-pub fn boards_of(asked: Distances, shelf: &Shelf, image: &Image) -> Result<u32, VerifyFault>
-    ensures ok { IfOk result (λ n. IsShaped asked shelf.now image.now × (n ≡ size_of image.now.level)) }
-    ensures err { IfErr result (IsDueBy asked shelf.now image.now) }
+pub fn boards_of(shelf: &Shelf, image: &Image) -> Result<u32, VerifyFault>
+    ensures ok { IfOk result (λ n. IsShaped shelf.now image.now × (n ≡ size_of image.now.level)) }
+    ensures err { IfErr result (IsDue shelf.now image.now) }
+    ensures early { IfErr result (λ fault. number_of fault < 22) }
     ensures shelf { IsShelf shelf.now }
 {
-    if image.level != shelf.levels() || image.level > highest_by(asked) {
+    if image.level != shelf.levels() || image.level > HIGHEST_LEVEL {
         return Err(VerifyFault::WrongLevel);
     }
     let boards = size(image.level);
@@ -161,15 +144,4 @@ pub fn boards_of(asked: Distances, shelf: &Shelf, image: &Image) -> Result<u32, 
         return Err(VerifyFault::WrongSize);
     }
     Ok(boards)
-}
-
-/// The highest level that these rules are for.
-fn highest_by(asked: Distances) -> u8
-    ensures is { result ≡ highest_by asked }
-    ensures low { result ≤ 24 }
-{
-    match asked {
-        Distances::Falling => HIGHEST_FALLING_LEVEL,
-        Distances::Least => HIGHEST_LEVEL,
-    }
 }

@@ -1,6 +1,5 @@
 use Rattle.std.proofs.Common.{sym, subst}
 use Rattle.awari_table.specs.Shelves.{Consistent}
-use Rattle.awari_table.specs.declared.rules.Distances.TheVariants.{Least}
 use Rattle.awari_table.proofs.ShelfLemmas.{IsLevel-consistent, IsShelf-push}
 use Rattle.awari_theory.proofs.Truths.{TellsTruth-shelf}
 use Rattle.awari_play.specs.Least.{IsPlannedLowest}
@@ -13,7 +12,7 @@ consistent c =
     c.kept_levels_are_right.ensures.consistent _ parts _ c.levels-levels.ensures.shelf c.requires.low settled.whole settled.closed settled.heard kept
 
 pub new-requires : goal.new-requires
-new-requires c = IsLevel-consistent Least c.args.shelf.now c.args.image (consistent c)
+new-requires c = IsLevel-consistent c.args.shelf.now c.args.image (consistent c)
 
 pub returns : goal.returns
 returns c =

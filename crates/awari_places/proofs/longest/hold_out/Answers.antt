@@ -1,8 +1,7 @@
 use Rattle.std.proofs.Common.{◌≡◌, ◌<◌, [], arith, rules, subst}
 use Rattle.awari_folder.proofs.States.{unchanged, unchanged_then}
-use Rattle.awari_table.specs.Certificate.{IsRightBy}
+use Rattle.awari_table.specs.Certificate.{IsRight}
 use Rattle.awari_table.specs.Images.{table_of}
-use Rattle.awari_table.specs.declared.rules.Distances.TheVariants.{Least}
 use Rattle.awari_play.proofs.HoldingOut.{IsDuePit, held-far, held-more, held-end, held-start}
 use Rattle.awari_places.proofs.Playing.{known_more, known_start}
 use Rattle.awari_places.proofs.Reading.{still_says}
@@ -40,4 +39,4 @@ returns-in-Ok-judged-clause-line g c = λ images says.
     let i = c.loop.invariant in
     let all : c.loop.counter ≡ (table_of images).dist c.args.board = omega (arith, c.loop-test.false, c.loop.auto.counter-end, (c.requires.judged images says).1) in
     let right = c.in-Ok-judged.ensures.right images (still_says _ _ _ images i.same.stands says) in
-    held-end (table_of images) _ _ _ _ _ all (subst (IsRightBy Least (table_of images)) c.board.ensures.shown right) (i.held images says)
+    held-end (table_of images) _ _ _ _ _ all (subst (IsRight (table_of images)) c.board.ensures.shown right) (i.held images says)

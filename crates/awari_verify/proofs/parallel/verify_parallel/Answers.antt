@@ -1,7 +1,6 @@
 use Rattle.std.proofs.Common.{refl}
-use Rattle.awari_table.specs.declared.rules.Distances.TheVariants.{Least}
 use Rattle.awari_table.proofs.ShelfLemmas.{IsLevel-consistent}
 use Rattle.awari_verify.proofs.parallel.verify_parallel.Goals as goal
 
 pub new-requires : goal.new-requires
-new-requires g c = IsLevel-consistent Least c.args.shelf.now c.args.image (c.in-None.ensures.none refl)
+new-requires g c = IsLevel-consistent c.args.shelf.now c.args.image (c.in-None.ensures.none refl)

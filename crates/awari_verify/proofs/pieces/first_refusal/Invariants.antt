@@ -6,6 +6,6 @@ use Rattle.awari_verify.proofs.pieces.first_refusal.Given as goal
 
 abbrev pub invariant-loop-piece : goal.invariant-loop-piece
 invariant-loop-piece l = record {
-  looks : Looks l.asked (table_of (l.shelf ++ l.image ∷ [])) l.image.level (λ p. piece_of p < l.piece) (record { rank = l.boards; rule = None }) l.found;
+  looks : Looks (table_of (l.shelf ++ l.image ∷ [])) l.image.level (λ p. piece_of p < l.piece) (record { rank = l.boards; rule = None }) l.found;
   within : l.found.rank ≤ size_of l.image.level;
 }

@@ -2,12 +2,12 @@ use Rattle.std.proofs.Common.{◌≡◌, ◌+◌, ◌-◌, ◌++◌, ℕ, sum, t
 use Rattle.awari_rank.specs.Fillings.{none}
 use Rattle.awari_rank.specs.Rank.{size_of}
 use Rattle.awari_verify.proofs.LookLemmas.{Looks-none, Looks-some}
-use Rattle.awari_verify.proofs.TileLemmas.{highest_low, own_filled, own_rest, tile_more}
+use Rattle.awari_verify.proofs.TileLemmas.{own_filled, own_rest, tile_more}
 use Rattle.awari_verify.proofs.pieces.look_in_tile.Goals as goal
 
 pub loop-done-init : goal.loop-done-init
 loop-done-init c = record {
-  looks = Looks-none _ _ _ _ _ (λ p board stones here. let before = here.1 in omega (arith, before));
+  looks = Looks-none _ _ _ _ (λ p board stones here. let before = here.1 in omega (arith, before));
   within = c.requires.within;
   is_board = c.unrank-filling.ensures.board;
   stones = c.unrank-filling.ensures.stones;
@@ -27,8 +27,7 @@ filled-requires-clause-few c =
     let others = c.stones.ensures.stones in
     let few = c.requires.few in
     let low = c.requires.shaped.low in
-    let high = highest_low c.args.asked in
-    omega (arith, own, others, few, low, high)
+    omega (arith, own, others, few, low)
 
 pub look_in_run-found-requires-clause-stones : goal.look_in_run-found-requires-clause-stones
 look_in_run-found-requires-clause-stones c =
@@ -51,7 +50,7 @@ loop-done-preserved c =
     let others = c.stones.ensures.stones in
     let own : sum c.loop-done.filling ≡ c.args.image.now.level - sum c.args.tile.now.first = before.stones ∙ ap (λ (n : ℕ). c.args.image.now.level - n) others in
     record {
-      looks = tile_more _ _ c.args.image.now.level c.args.tile.now.count c.loop-done._done c.loop-done.filling c.args.tile.now.first c.filled.result _ _ _ before.is_board c.requires.board c.requires.filling own ranked c.filled.ensures.is before.looks c.look_in_run-found.ensures;
+      looks = tile_more _ c.args.image.now.level c.args.tile.now.count c.loop-done._done c.loop-done.filling c.args.tile.now.first c.filled.result _ _ _ before.is_board c.requires.board c.requires.filling own ranked c.filled.ensures.is before.looks c.look_in_run-found.ensures;
       within = omega (arith, nearer, within);
       is_board = next.board;
       stones = next.stones ∙ before.stones;
@@ -63,7 +62,7 @@ loop-done-preserved c =
 
 pub returns : goal.returns
 returns c =
-    Looks-some _ _ _ _ _ _ _ c.loop-done.invariant.looks (λ p board stones tile.
+    Looks-some _ _ _ _ _ _ c.loop-done.invariant.looks (λ p board stones tile.
     let half = own_filled p board in
     let others = c.stones.ensures.stones in
     let own = own_rest p c.args.image.now.level c.stones.result stones (tile.0 ∙ sym others) in

@@ -1,6 +1,5 @@
 use Rattle.std.proofs.Common.{◌≡◌, true, false, slice_index_or, None, sym, subst}
 use Rattle.awari_rank.specs.Rank.{size_of}
-use Rattle.awari_table.specs.declared.rules.Distances.TheVariants.{Least}
 use Rattle.awari_verify.specs.Pieces.{Looks, piece_of}
 use Rattle.awari_verify.specs.declared.pieces.Nearest.{Nearest}
 use Rattle.awari_verify.proofs.LookLemmas.{Looks-both}
@@ -8,5 +7,5 @@ use Rattle.awari_verify.proofs.shares.both.Goals as goal
 
 pub returns : goal.returns
 returns c = λ t level first second.
-    subst (λ (s : Nearest). Looks Least t level (λ p. slice_index_or c.loop-piece.seen (piece_of p) false ≡ true) (record { rank = size_of level; rule = None }) s) (sym c.or_nearer.ensures)
-    (Looks-both _ _ _ _ _ _ _ _ _ first second (λ p board stones here. c.loop-piece.invariant.seen (piece_of p) here))
+    subst (λ (s : Nearest). Looks t level (λ p. slice_index_or c.loop-piece.seen (piece_of p) false ≡ true) (record { rank = size_of level; rule = None }) s) (sym c.or_nearer.ensures)
+    (Looks-both _ _ _ _ _ _ _ _ first second (λ p board stones here. c.loop-piece.invariant.seen (piece_of p) here))

@@ -1,6 +1,5 @@
 use Rattle.std.proofs.Common.{subst}
 use Rattle.std.proofs.lemmas.Result.{err_from_is_err_and}
-use Rattle.awari_table.specs.declared.rules.Distances.TheVariants.{Least}
 use Rattle.awari_table.proofs.ShelfLemmas.{IsLevel-consistent}
 use Rattle.awari_folder.specs.Verifying.{IsReadAs, IsVerdict}
 use Rattle.awari_folder.proofs.Placing.{begins_sealed, seal_refused}
@@ -15,7 +14,7 @@ returns-in-Err-verify-clause-fault g c = λ bytes known is.
     seal_refused c.in-Ok.file bytes known c.args.self.now.shelf c.args.self.now.digest c.levels-level.result c.in-Err-verify.fault c.levels-level.ensures.levels (subst (λ r. IsReadAs r bytes known) c.in-Ok.is is) c.in-Err-verify.ensures
 
 pub new-requires : goal.new-requires
-new-requires g c = IsLevel-consistent Least c.args.self.now.shelf c.in-Ok.file.loaded.image (subst (IsVerdict _ c.args.self.now.shelf c.in-Ok.file.loaded.image) c.in-Ok-None.field-0-is c.in-Ok-None.ensures.1).0
+new-requires g c = IsLevel-consistent c.args.self.now.shelf c.in-Ok.file.loaded.image (subst (IsVerdict _ c.args.self.now.shelf c.in-Ok.file.loaded.image) c.in-Ok-None.field-0-is c.in-Ok-None.ensures.1).0
 
 pub returns-in_err-new-clause-fault : goal.returns-in_err-new-clause-fault
 returns-in_err-new-clause-fault g c = λ bytes known is.
