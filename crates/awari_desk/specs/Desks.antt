@@ -1,14 +1,16 @@
 -- What readers are answered, and what a clause sees of a publisher.
-use Rattle.std.specs.Prelude.{◌≡◌, ◌≤◌, ◌<◌, ℕ, Bool, List, length, drop, sum, Result, Ok, Err}
+use Rattle.std.specs.Prelude.{◌≡◌, ◌≢◌, ◌↔◌, ◌≤◌, ◌<◌, ℕ, Bool, List, [], ◌∷◌, ◌++◌, length, drop, sum, Result, Ok, Err, OnOk, OnErr}
 use Rattle.awari_table.specs.declared.images.Image.{Image}
 use Rattle.awari_table.specs.declared.images.Entry.{Entry}
 use Rattle.awari_table.specs.Images.{entry_of}
-use Rattle.awari_table.specs.Shelves.{IsShelf}
+use Rattle.awari_table.specs.Shelves.{Consistent, IsShelf}
 use Rattle.awari_desk.specs.Answering.{Answering}
 use Rattle.awari_desk.specs.AskFault.{line_of, name_of, number_of}
 use Rattle.awari_desk.specs.Books.{BeginsWith}
 use Rattle.awari_desk.specs.declared.faults.AskFault.{AskFault}
 use Rattle.awari_desk.specs.declared.faults.AskFault.TheVariants.{NotYet, Gone}
+use Rattle.awari_desk.specs.declared.faults.DeskFault.{DeskFault}
+use Rattle.awari_desk.specs.declared.faults.DeskFault.TheVariants.{NotNext, Readers, Memory}
 use Rattle.awari_desk.specs.declared.pages.Pages.{Pages}
 use Rattle.awari_play.specs.declared.weighing.Weighed.{Weighed}
 use Rattle.awari_play.specs.Worths.{IsWeighed}
@@ -42,3 +44,20 @@ book_of p = p.writer.desk.shown.value.0
 -- the sharing of a level was refused within a publication, which is left pending
 abbrev pub IsStuck : Pages → Type 0
 IsStuck p = 0 < length (drop p.writer.behind p.writer.log.items)
+
+-- the level is consistent over the book, if it is its next
+abbrev pub CanPublish : Image → Pages → Type 0
+CanPublish level pages = level.level ≡ length (book_of pages) → Consistent (book_of pages) level
+
+-- What a publication does. The level stands on top of the book, or the book is as it was. It is refused as 71 if the level is not the
+-- next, and only then, and never as 72. A book that is stuck stays so: it takes no level, and its next one is refused as 73. No
+-- refusal as 71 makes a book stuck.
+pub record Publishes {X : Type 0} (level : Image) (result : Result X DeskFault) (old new : Pages) : Type 0 where
+  pub published : OnOk result (book_of new ≡ book_of old ++ level ∷ [])
+  pub kept : OnErr result (book_of new ≡ book_of old)
+  pub not_next : (result ≡ Err NotNext) ↔ (level.level ≢ length (book_of old))
+  pub other : result ≢ Err Readers
+  pub free : OnOk result (IsStuck new → ⊥)
+  pub stuck : IsStuck old → IsStuck new
+  pub clean : result ≡ Err NotNext → IsStuck new → IsStuck old
+  pub refused : IsStuck old → level.level ≡ length (book_of old) → result ≡ Err Memory

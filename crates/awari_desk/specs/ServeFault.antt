@@ -1,6 +1,7 @@
 -- Why a service ends early.
-use Rattle.std.specs.Prelude.{ℕ, List, ◌++◌, codes}
+use Rattle.std.specs.Prelude.{◌≡◌, ◌<◌, ℕ, List, ◌++◌, length, codes, Option, IfSome, Result, Err, OnOk, OnErr}
 use Rattle.std.specs.Fmt.{decimal}
+use Rattle.awari_streams.specs.Counted.{Grew}
 use Rattle.awari_desk.specs.declared.faults.ServeFault.{ServeFault}
 use Rattle.awari_desk.specs.declared.faults.ServeFault.TheVariants.{Read, TooLong, Write}
 
@@ -18,3 +19,15 @@ name_of Write = codes "Write"
 -- what is printed of each: its number and its name
 abbrev pub fault_text : ServeFault → List ℕ
 fault_text fault = decimal (number_of fault) ++ codes " " ++ name_of fault
+
+-- It is refused if the writer gave a fault or took no byte, as 92, and only then.
+pub record TellsWriter {X : Type 0} (result : Result X ServeFault) (old new : ℕ) : Type 0 where
+  pub clean : OnOk result (new ≡ old)
+  pub fault : OnErr result ((result ≡ Err Write) × Grew old new)
+
+-- It is 90 only if the input gave a fault, 91 only if more than the most bytes came, and 92 only if the writer gave a fault or took
+-- no byte.
+pub record TellsEnd {X : Type 0} (result : Result X ServeFault) (most : ℕ) (input : Option (List ℕ)) (read reads written writes : ℕ) : Type 0 where
+  pub read_fault : result ≡ Err Read → Grew read reads
+  pub too_long : result ≡ Err TooLong → IfSome input (λ bytes. most < length bytes)
+  pub write_fault : result ≡ Err Write → Grew written writes

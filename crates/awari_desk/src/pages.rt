@@ -19,11 +19,10 @@ pub struct Pages {
 }
 
 impl Pages {
-    ghost use Rattle.std.specs.Prelude.{◌≡◌, ◌≢◌, ◌↔◌, [], ◌∷◌, ◌++◌, length, Err, IfOk, IfErr, OnOk, OnErr};
+    ghost use Rattle.std.specs.Prelude.{◌≡◌, ◌↔◌, IfOk, IfErr};
     ghost use Rattle.std.specs.Arc.{arc_value};
-    ghost use Rattle.awari_table.specs.Shelves.{Consistent};
-    ghost use Rattle.awari_desk.specs.Desks.{book_of, IsStuck};
-    ghost use Rattle.awari_desk.specs.declared.faults.DeskFault.TheVariants.{NotNext, Readers, Memory};
+    ghost use Rattle.awari_desk.specs.Desks.{book_of, CanPublish, IsStuck, Publishes};
+    ghost use Rattle.awari_desk.specs.declared.faults.DeskFault.TheVariants.{Readers};
 
     /// What readers see now. It never waits, and takes no memory.
     pub fn book(&self) -> &Shelf
@@ -57,19 +56,10 @@ impl Pages {
         rt: &R,
         level: Arc<Level, Global>,
     ) -> Result<(), DeskFault>
-        requires { (arc_value level).level ≡ length (book_of self.old) → Consistent (book_of self.old) (arc_value level) }
-        ensures published { OnOk result (book_of self.new ≡ book_of self.old ++ arc_value level ∷ []) }
-        ensures kept { OnErr result (book_of self.new ≡ book_of self.old) }
-        ensures not_next { (result ≡ Err NotNext) ↔ ((arc_value level).level ≢ length (book_of self.old)) }
-        ensures other { result ≢ Err Readers }
-        ensures free { OnOk result (IsStuck self.new → ⊥) }
-        ensures stuck { IsStuck self.old → IsStuck self.new }
-        ensures clean { result ≡ Err NotNext → IsStuck self.new → IsStuck self.old }
-        ensures refused { IsStuck self.old → (arc_value level).level ≡ length (book_of self.old) → result ≡ Err Memory }
+        requires { CanPublish (arc_value level) self.old }
+        ensures { Publishes (arc_value level) result self.old self.new }
     {
-        replace_with(&mut self.writer, level, |writer, level| {
-            add(rt, writer, level)
-        })
+        replace_with(self, level, |pages, level| add(rt, pages, level))
     }
 
     /// As `Publisher::close`.

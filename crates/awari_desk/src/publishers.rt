@@ -15,11 +15,8 @@ pub struct Publisher<R: Wait + Drop> {
 }
 
 impl<R: Wait + Drop> Publisher<R> {
-    ghost use Rattle.std.specs.Prelude.{◌≡◌, ◌≢◌, ◌↔◌, ◌∷◌, ◌++◌, [], length, Err, OnOk, OnErr};
     ghost use Rattle.std.specs.Arc.{arc_value};
-    ghost use Rattle.awari_table.specs.Shelves.{Consistent};
-    ghost use Rattle.awari_desk.specs.Desks.{book_of, IsStuck};
-    ghost use Rattle.awari_desk.specs.declared.faults.DeskFault.TheVariants.{NotNext, Readers, Memory};
+    ghost use Rattle.awari_desk.specs.Desks.{CanPublish, Publishes};
 
     /// Puts a level on top of the book, at once for every reader. Condition: if it is the book's next
     /// level, it is consistent over the book. Refused as 71 `NotNext` if it is not the next level,
@@ -27,15 +24,8 @@ impl<R: Wait + Drop> Publisher<R> {
     /// be made again. But once a publication could not share a level, each later call that is not 71
     /// is 73. It can wait for readers.
     pub fn publish(&mut self, level: Arc<Level, Global>) -> Result<(), DeskFault>
-        requires { (arc_value level).level ≡ length (book_of self.old.pages) → Consistent (book_of self.old.pages) (arc_value level) }
-        ensures published { OnOk result (book_of self.new.pages ≡ book_of self.old.pages ++ arc_value level ∷ []) }
-        ensures kept { OnErr result (book_of self.new.pages ≡ book_of self.old.pages) }
-        ensures not_next { (result ≡ Err NotNext) ↔ ((arc_value level).level ≢ length (book_of self.old.pages)) }
-        ensures other { result ≢ Err Readers }
-        ensures free { OnOk result (IsStuck self.new.pages → ⊥) }
-        ensures stuck { IsStuck self.old.pages → IsStuck self.new.pages }
-        ensures clean { result ≡ Err NotNext → IsStuck self.new.pages → IsStuck self.old.pages }
-        ensures refused { IsStuck self.old.pages → (arc_value level).level ≡ length (book_of self.old.pages) → result ≡ Err Memory }
+        requires { CanPublish (arc_value level) self.old.pages }
+        ensures { Publishes (arc_value level) result self.old.pages self.new.pages }
     {
         self.pages.publish(&self.rt, level)
     }

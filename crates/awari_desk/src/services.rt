@@ -1,11 +1,11 @@
 //! The service: requests in, and an answer to each out.
 
-ghost use Rattle.std.specs.Prelude.{◌≡◌, ◌<◌, ◌+◌, ◌++◌, ◌∷◌, [], ℕ, List, Option, length, true, false, Err, IfSome, OnOk, OnErr};
+ghost use Rattle.std.specs.Prelude.{◌≡◌, ◌++◌, ◌∷◌, [], ℕ, List, Option, OnOk, OnErr};
 ghost use Rattle.std.specs.Io.KnownBytes.{Appends};
-ghost use Rattle.awari_streams.specs.Counted.{inner_of, faults_of, Grew};
+ghost use Rattle.awari_streams.specs.Counted.{inner_of, faults_of};
 ghost use Rattle.awari_desk.specs.Coming.{Holds, Serving, Responds, Feeds, Ends, Moves};
 ghost use Rattle.awari_desk.specs.Service.{IsInput, HasServed, HasServedWithin, HasBegun, HasBegunWithin};
-ghost use Rattle.awari_desk.specs.declared.faults.ServeFault.TheVariants as serve_fault;
+ghost use Rattle.awari_desk.specs.ServeFault.{TellsEnd, TellsWriter};
 
 use crate::answers::{Answer, text_of_answer};
 use crate::faults::ServeFault;
@@ -25,8 +25,7 @@ fn put<W: Write>(output: &mut Counted<W>, bytes: &[u8]) -> Result<(), ServeFault
     ensures wrote { OnOk result (Appends (W.contents (inner_of output.old)) (W.contents (inner_of output.new)) bytes.now) }
     ensures partly { OnErr result ((front rest : List ℕ) × (bytes.now ≡ front ++ rest)
         × Appends (W.contents (inner_of output.old)) (W.contents (inner_of output.new)) front) }
-    ensures clean { OnOk result (faults_of output.new ≡ faults_of output.old) }
-    ensures fault { OnErr result ((result ≡ Err serve_fault.Write) × Grew (faults_of output.old) (faults_of output.new)) }
+    ensures told { TellsWriter result (faults_of output.old) (faults_of output.new) }
 {
     let mut rest = bytes;
     while !rest.is_empty() {
@@ -44,8 +43,7 @@ fn send<W: Write>(output: &mut Counted<W>, bytes: &[u8]) -> Result<(), ServeFaul
     ensures wrote { OnOk result (Appends (W.contents (inner_of output.old)) (W.contents (inner_of output.new)) bytes.now) }
     ensures partly { OnErr result ((front rest : List ℕ) × (bytes.now ≡ front ++ rest)
         × Appends (W.contents (inner_of output.old)) (W.contents (inner_of output.new)) front) }
-    ensures clean { OnOk result (faults_of output.new ≡ faults_of output.old) }
-    ensures fault { OnErr result ((result ≡ Err serve_fault.Write) × Grew (faults_of output.old) (faults_of output.new)) }
+    ensures told { TellsWriter result (faults_of output.old) (faults_of output.new) }
 {
     put(output, bytes)?;
     match output.flush() {
@@ -62,8 +60,7 @@ fn respond<O: Oracle, W: Write>(
 ) -> Result<bool, ServeFault>
     ensures responds { (request : List ℕ) → Holds coming.now request
         → Responds O.answering oracle.old request result oracle.new (W.contents (inner_of output.old)) (W.contents (inner_of output.new)) }
-    ensures clean { OnOk result (faults_of output.new ≡ faults_of output.old) }
-    ensures fault { OnErr result ((result ≡ Err serve_fault.Write) × Grew (faults_of output.old) (faults_of output.new)) }
+    ensures told { TellsWriter result (faults_of output.old) (faults_of output.new) }
 {
     let answer = coming.answer(oracle);
     send(output, text_of_answer::<O>(&answer).as_slice())?;
@@ -80,8 +77,7 @@ fn take_byte<O: Oracle, W: Write>(
     ensures feeds { (first : O) (before : Option (List ℕ)) (taken : List ℕ)
         → Serving O.answering first before taken (W.contents (inner_of output.old)) oracle.old coming.old
         → Feeds O.answering first before (taken ++ byte ∷ []) result (W.contents (inner_of output.new)) oracle.new coming.new }
-    ensures clean { OnOk result (faults_of output.new ≡ faults_of output.old) }
-    ensures fault { OnErr result ((result ≡ Err serve_fault.Write) × Grew (faults_of output.old) (faults_of output.new)) }
+    ensures told { TellsWriter result (faults_of output.old) (faults_of output.new) }
 {
     if byte != b'\n' {
         coming.push(byte);
@@ -102,8 +98,7 @@ fn feed<O: Oracle, W: Write>(
     ensures feeds { (first : O) (before : Option (List ℕ)) (taken : List ℕ)
         → Serving O.answering first before taken (W.contents (inner_of output.old)) oracle.old coming.old
         → Feeds O.answering first before (taken ++ bytes.now) result (W.contents (inner_of output.new)) oracle.new coming.new }
-    ensures clean { OnOk result (faults_of output.new ≡ faults_of output.old) }
-    ensures fault { OnErr result ((result ≡ Err serve_fault.Write) × Grew (faults_of output.old) (faults_of output.new)) }
+    ensures told { TellsWriter result (faults_of output.old) (faults_of output.new) }
 {
     for byte in bytes {
         if take_byte(oracle, coming, *byte, output)? {
@@ -122,8 +117,7 @@ fn finish<O: Oracle, W: Write>(
     ensures ends { (first : O) (before : Option (List ℕ)) (taken : List ℕ)
         → Serving O.answering first before taken (W.contents (inner_of output.old)) oracle.old coming.now
         → Ends O.answering first before taken result (W.contents (inner_of output.new)) oracle.new }
-    ensures clean { OnOk result (faults_of output.new ≡ faults_of output.old) }
-    ensures fault { OnErr result ((result ≡ Err serve_fault.Write) × Grew (faults_of output.old) (faults_of output.new)) }
+    ensures told { TellsWriter result (faults_of output.old) (faults_of output.new) }
 {
     if coming.is_empty() {
         return Ok(());
@@ -145,9 +139,7 @@ fn take_some<O: Oracle, R: Read, W: Write>(
         → Serving O.answering first before taken (W.contents (inner_of output.old)) oracle.old coming.old
         → Moves O.answering first before taken left (R.remaining (inner_of input.old)) (R.remaining (inner_of input.new)) result (W.contents (inner_of output.new)) oracle.new coming.new }
     ensures clean { OnOk result ((faults_of input.new ≡ faults_of input.old) × (faults_of output.new ≡ faults_of output.old)) }
-    ensures read { result ≡ Err serve_fault.Read → Grew (faults_of input.old) (faults_of input.new) }
-    ensures write { result ≡ Err serve_fault.Write → Grew (faults_of output.old) (faults_of output.new) }
-    ensures long { result ≡ Err serve_fault.TooLong → IfSome (R.remaining (inner_of input.old)) (λ bytes. left < length bytes) }
+    ensures told { TellsEnd result left (R.remaining (inner_of input.old)) (faults_of input.old) (faults_of input.new) (faults_of output.old) (faults_of output.new) }
 {
     let mut buffer = [0u8; BUFFER_LEN];
     let count = match input.read(&mut buffer) {
@@ -200,9 +192,7 @@ pub fn serve<O: Oracle, R: Read, W: Write>(
 
     // 90 comes only if the input gave a fault, 91 only if too many bytes came, and 92 only if the
     // writer gave a fault or took no byte.
-    ensures read { result ≡ Err serve_fault.Read → Grew (faults_of input.old) (faults_of input.new) }
-    ensures too_long { result ≡ Err serve_fault.TooLong → IfSome (R.remaining (inner_of input.old)) (λ bytes. LONGEST_INPUT < length bytes) }
-    ensures write { result ≡ Err serve_fault.Write → Grew (faults_of output.old) (faults_of output.new) }
+    ensures told { TellsEnd result LONGEST_INPUT (R.remaining (inner_of input.old)) (faults_of input.old) (faults_of input.new) (faults_of output.old) (faults_of output.new) }
 {
     let mut coming = Coming::new();
     let mut left = LONGEST_INPUT;
