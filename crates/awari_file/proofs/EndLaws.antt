@@ -124,16 +124,16 @@ end_missing s e front left a b old new known took why h =
     let short = short_front front s e h in
     subst (EndsEarly left b) (sym short.1) (early s front left rest b old new b-is parts short.0 (why (omega (arith, short.0))))
 
-pub tells_behind : (over : List ℕ) (s : FileFault) (old new : ℕ) → (s ≡ faults.Read → Grew old new) → (s ≢ faults.Read → new ≡ old) → (1 ≤ length over → new ≡ old) → TellsBehind (behind_by over s) old new
-tells_behind (x ∷ over) s old new read calm some = some (omega arith)
-tells_behind [] faults.Read old new read calm some = read refl
-tells_behind [] faults.Truncated old new read calm some = calm (λ is. absurd cc)
-tells_behind [] faults.Memory old new read calm some = calm (λ is. absurd cc)
-tells_behind [] faults.Magic old new read calm some = calm (λ is. absurd cc)
-tells_behind [] faults.Version old new read calm some = calm (λ is. absurd cc)
-tells_behind [] faults.LevelOutOfRange old new read calm some = calm (λ is. absurd cc)
-tells_behind [] faults.Count old new read calm some = calm (λ is. absurd cc)
-tells_behind [] faults.EntryForm old new read calm some = calm (λ is. absurd cc)
-tells_behind [] faults.Digest old new read calm some = calm (λ is. absurd cc)
-tells_behind [] faults.Trailing old new read calm some = calm (λ is. absurd cc)
-tells_behind [] faults.Write old new read calm some = calm (λ is. absurd cc)
+pub tells_behind : (over : List ℕ) (s : FileFault) (old new : ℕ) → (s ≡ faults.Read → Grew old new) → (s ≢ faults.Read → new ≡ old) → (1 ≤ length over → new ≡ old) → old ≤ new → TellsBehind (behind_by over s) old new
+tells_behind (x ∷ over) s old new read calm some more = some (omega arith)
+tells_behind [] faults.Read old new read calm some more = (read refl, more)
+tells_behind [] faults.Truncated old new read calm some more = calm (λ is. absurd cc)
+tells_behind [] faults.Memory old new read calm some more = calm (λ is. absurd cc)
+tells_behind [] faults.Magic old new read calm some more = calm (λ is. absurd cc)
+tells_behind [] faults.Version old new read calm some more = calm (λ is. absurd cc)
+tells_behind [] faults.LevelOutOfRange old new read calm some more = calm (λ is. absurd cc)
+tells_behind [] faults.Count old new read calm some more = calm (λ is. absurd cc)
+tells_behind [] faults.EntryForm old new read calm some more = calm (λ is. absurd cc)
+tells_behind [] faults.Digest old new read calm some more = calm (λ is. absurd cc)
+tells_behind [] faults.Trailing old new read calm some more = calm (λ is. absurd cc)
+tells_behind [] faults.Write old new read calm some more = calm (λ is. absurd cc)

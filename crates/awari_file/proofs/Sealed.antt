@@ -1,5 +1,5 @@
 -- A file whose digest was compared.
-use Rattle.std.proofs.Common.{◌≡◌, ◌≢◌, inl, inr, ℕ, List, [], ◌∷◌, ◌++◌, Option, Some, None, Result, Ok, Err, refl, sym, ap, subst, ◌∙◌, append_assoc, append-nil}
+use Rattle.std.proofs.Common.{◌≡◌, ◌≢◌, inl, inr, ℕ, List, [], ◌∷◌, ◌++◌, Option, Some, None, Result, Ok, Err, refl, sym, ap, subst, ◌∙◌, append_assoc, append-nil, arith}
 use Rattle.std.specs.Prelude.{IfSome, ⊤, ◌≤◌}
 use Rattle.awari_streams.specs.Counted.{Grew}
 use Rattle.awari_table.specs.declared.images.Entry.{Entry}
@@ -11,9 +11,9 @@ use Rattle.awari_file.specs.declared.sealing.Unsealed.{Unsealed}
 use Rattle.awari_file.specs.declared.faults.FileFault.{FileFault}
 use Rattle.awari_file.specs.declared.faults.FileFault.TheVariants as faults
 use Rattle.awari_file.specs.FileText.{body_text, HasFile, IsFileOf}
-use Rattle.awari_file.specs.Reading.{file_in, end_at, IsOwn}
-use Rattle.awari_file.specs.Source.{Answers, StopsIn, IsSoundSoFar, IsRefused, BeginsRight}
-use Rattle.awari_file.specs.Sealing.{IsBehind, IsUnsealed, Seals, Stops, StopsBy, EndsEarly, Tells, digest_of, fault_behind}
+use Rattle.awari_file.specs.Reading.{file_in, end_at}
+use Rattle.awari_file.specs.Source.{Answers, StopsIn, IsSoundSoFar, IsRefused}
+use Rattle.awari_file.specs.Sealing.{IsBehind, IsUnsealed, Seals, Stops, StopsBy, EndsEarly, Tells, TellsBehind, digest_of, fault_behind}
 use Rattle.awari_file.proofs.EndLaws.{another_digest, nothing_behind, some_behind, too_short}
 use Rattle.awari_file.proofs.WholeLaws.{after_end, known_intro}
 use Rattle.awari_file.proofs.WholeSpell.{file_on, size_small, low_in}
@@ -117,23 +117,6 @@ known_unsealed a b file f = known_intro a (λ xs. IsUnsealed file xs b) f
 abbrev pub unsealed_of : Header → List Entry → List ℕ → Loaded
 unsealed_of h es digest = record { version = h.version; image = record { level = h.level; limit = h.limit; entries = es }; below = h.below; digest = digest }
 
-pub same_fault : (e : FileFault) → e ≡ e
-same_fault e = refl
-
-pub stops_by : (e : FileFault) (bytes : List ℕ) (known : Option (List ℕ)) → (e ≡ faults.Read → StopsIn IsSoundSoFar bytes known) → (e ≡ faults.Memory → BeginsRight bytes)
-    → (IsOwn e → StopsIn (IsRefused e) bytes known) → StopsBy e bytes known
-stops_by faults.Read bytes known read memory own = read refl
-stops_by faults.Memory bytes known read memory own = memory refl
-stops_by faults.Truncated bytes known read memory own = tt
-stops_by faults.Magic bytes known read memory own = own tt
-stops_by faults.Version bytes known read memory own = own tt
-stops_by faults.LevelOutOfRange bytes known read memory own = own tt
-stops_by faults.Count bytes known read memory own = own tt
-stops_by faults.EntryForm bytes known read memory own = own tt
-stops_by faults.Digest bytes known read memory own = own tt
-stops_by faults.Trailing bytes known read memory own = own tt
-stops_by faults.Write bytes known read memory own = own tt
-
 pub tells : (e : FileFault) (old new : ℕ) → (e ≡ faults.Read → Grew old new) → (e ≡ faults.Truncated → new ≡ old) → old ≤ new → Tells e old new
 tells faults.Read old new read early more = read refl
 tells faults.Truncated old new read early more = early refl
@@ -195,24 +178,22 @@ seal_fault a b file e is wrong = given a is (λ xs unsealed. seal_stops file xs 
 pub exact_fault : (a b : Option (List ℕ)) (r : Result Loaded FileFault) (d e : FileFault) → r ≡ Err d → d ≡ e → IfSome a (λ xs. Stops xs b e) → IfSome a (λ xs. Answers (λ (x : Loaded). x) r (file_in xs))
 exact_fault a b r d e is same stops = given a stops (λ xs here. rw (is, same) here.0)
 
-pub reader_fault : (a b : Option (List ℕ)) (e : FileFault) → e ≡ faults.Read → IfSome a (λ xs. Stops xs b e) → IfSome a (λ xs. StopsIn IsSoundSoFar xs b)
-reader_fault a b e is stops = given a stops (λ xs here. subst (λ (d : FileFault). StopsBy d xs b) is here.1)
+pub stops_in_file : (a b : Option (List ℕ)) (e : FileFault) → IfSome a (λ xs. Stops xs b e) → IfSome a (λ xs. StopsBy xs b e)
+stops_in_file a b e stops = given a stops (λ xs here. here.1)
 
-by_own : (e : FileFault) (xs : List ℕ) (b : Option (List ℕ)) → IsOwn e → StopsBy e xs b → StopsIn (IsRefused e) xs b
-by_own faults.Read xs b own here = absurd own
-by_own faults.Memory xs b own here = absurd own
-by_own faults.Truncated xs b own here = absurd own
-by_own faults.Magic xs b own here = here
-by_own faults.Version xs b own here = here
-by_own faults.LevelOutOfRange xs b own here = here
-by_own faults.Count xs b own here = here
-by_own faults.EntryForm xs b own here = here
-by_own faults.Digest xs b own here = here
-by_own faults.Trailing xs b own here = here
-by_own faults.Write xs b own here = here
+-- ---- the faults of the reader
 
-pub own_fault : (a b : Option (List ℕ)) (d e : FileFault) → d ≡ e → IsOwn e → IfSome a (λ xs. Stops xs b d) → IfSome a (λ xs. StopsIn (IsRefused e) xs b)
-own_fault a b d e same own stops = given a stops (λ xs here. by_own e xs b own (subst (λ (f : FileFault). StopsBy f xs b) same here.1))
+more_behind : (b : Behind) (old new : ℕ) → TellsBehind b old new → old ≤ new
+more_behind behind.Nothing old new told = omega (arith, told)
+more_behind behind.Byte old new told = omega (arith, told)
+more_behind behind.Fault old new told = told.1
 
-pub memory_fault : (a b : Option (List ℕ)) (e : FileFault) → e ≡ faults.Memory → IfSome a (λ xs. Stops xs b e) → IfSome a (λ xs. BeginsRight xs)
-memory_fault a b e is stops = given a stops (λ xs here. subst (λ (d : FileFault). StopsBy d xs b) is here.1)
+fault_tells : (b : Behind) (e : FileFault) (old new : ℕ) → fault_behind b ≡ Some e → TellsBehind b old new → Tells e old new
+fault_tells behind.Nothing e old new is told = absurd cc
+fault_tells behind.Byte e old new is told = let trailing : faults.Trailing ≡ e = cc in subst (λ (d : FileFault). Tells d old new) trailing (omega (arith, told))
+fault_tells behind.Fault e old new is told = let read : faults.Read ≡ e = cc in subst (λ (d : FileFault). Tells d old new) read told.0
+
+-- what comparing the digest answers tells of them too
+pub seal_tells : (file : Unsealed) (e : FileFault) (old new : ℕ) → Seals {X = ⊤} file (Err e) → TellsBehind file.behind old new → Tells e old new
+seal_tells file e old new (inl another) told = subst (λ (d : FileFault). Tells d old new) (sym another.1) (more_behind file.behind old new told)
+seal_tells file e old new (inr after) told = fault_tells file.behind e old new after.1 told

@@ -1,13 +1,14 @@
 -- Steps over a reader: what a piece of its bytes gives is what all that it has left gives.
-use Rattle.std.proofs.Common.{◌≡◌, ℕ, zero, suc, ◌<◌, ◌≤◌, List, [], ◌∷◌, ◌++◌, length, Option, Some, None, Result, Ok, Err, refl, sym, ap, subst, ◌∙◌, ◌⊎◌, inl, inr, append_assoc}
+use Rattle.std.proofs.Common.{◌≡◌, ℕ, zero, suc, ◌<◌, ◌≤◌, List, [], ◌∷◌, ◌++◌, length, Option, Some, None, Result, Ok, Err, refl, sym, ap, subst, ◌∙◌, ◌⊎◌, inl, inr, append_assoc, arith}
 use Rattle.std.specs.Io.KnownBytes.{Consumes, IsAtEnd}
 use Rattle.awari_file.specs.declared.faults.FileFault.{FileFault}
 use Rattle.awari_file.specs.declared.faults.FileFault.TheVariants as faults
 use Rattle.awari_file.specs.Reading.{Fails, IsOwn}
 use Rattle.awari_file.specs.Source as source
-use Rattle.awari_file.specs.Source.{IsAt, StopsIn, Unfinished, HasFault}
+use Rattle.awari_file.specs.Source.{IsAt, StopsIn, StopsFor, Unfinished, HasFault}
 use Rattle.awari_file.specs.FileText.{IsBytes}
 use Rattle.std.specs.Prelude.{IsOk}
+use Rattle.awari_streams.specs.Counted.{Grew}
 use Rattle.awari_file.proofs.FieldLaws.{Reader, IsField}
 use Rattle.awari_file.proofs.Loop.{ok_from, value_of}
 use Rattle.awari_file.proofs.FileLaws.{IsWhy, piece_fails, piece_gives, piece_own, read_stops, early_from_short}
@@ -112,3 +113,38 @@ step_right Y n f is s front whole left a b here took small right =
     let (rest, b-is, parts) = consumes_some a b left front here.known_is took in
     let (x, h) = value_of (f s front) right in
     ok_from (f faults.Truncated left) (x.0, rest) (ap (f faults.Truncated) parts ∙ piece_gives Y n f is s front rest x small h)
+
+-- where reading stops, fault by fault
+pub stops_for : (sound : List ℕ → Type 0) (refused : FileFault → List ℕ → Type 0) (lacking : Type 0) (left : List ℕ) (known : Option (List ℕ)) (e : FileFault) → (e ≡ faults.Read → StopsIn sound left known)
+    → (e ≡ faults.Memory → lacking) → (IsOwn e → StopsIn (refused e) left known) → StopsFor sound refused lacking left known e
+stops_for sound refused lacking left known faults.Read read memory own = read refl
+stops_for sound refused lacking left known faults.Memory read memory own = memory refl
+stops_for sound refused lacking left known faults.Truncated read memory own = tt
+stops_for sound refused lacking left known faults.Magic read memory own = own tt
+stops_for sound refused lacking left known faults.Version read memory own = own tt
+stops_for sound refused lacking left known faults.LevelOutOfRange read memory own = own tt
+stops_for sound refused lacking left known faults.Count read memory own = own tt
+stops_for sound refused lacking left known faults.EntryForm read memory own = own tt
+stops_for sound refused lacking left known faults.Digest read memory own = own tt
+stops_for sound refused lacking left known faults.Trailing read memory own = own tt
+stops_for sound refused lacking left known faults.Write read memory own = own tt
+
+-- where reading stops in a part, it stops in the whole
+pub stops_along : (sound whole : List ℕ → Type 0) (refused fails : FileFault → List ℕ → Type 0) (lacking wanting : Type 0) (left bytes : List ℕ) (known : Option (List ℕ)) (e : FileFault)
+    → (StopsIn sound left known → StopsIn whole bytes known) → ((d : FileFault) → StopsIn (refused d) left known → StopsIn (fails d) bytes known) → (lacking → wanting)
+    → StopsFor sound refused lacking left known e → StopsFor whole fails wanting bytes known e
+stops_along sound whole refused fails lacking wanting left bytes known faults.Read read own memory stop = read stop
+stops_along sound whole refused fails lacking wanting left bytes known faults.Memory read own memory stop = memory stop
+stops_along sound whole refused fails lacking wanting left bytes known faults.Truncated read own memory stop = tt
+stops_along sound whole refused fails lacking wanting left bytes known faults.Magic read own memory stop = own faults.Magic stop
+stops_along sound whole refused fails lacking wanting left bytes known faults.Version read own memory stop = own faults.Version stop
+stops_along sound whole refused fails lacking wanting left bytes known faults.LevelOutOfRange read own memory stop = own faults.LevelOutOfRange stop
+stops_along sound whole refused fails lacking wanting left bytes known faults.Count read own memory stop = own faults.Count stop
+stops_along sound whole refused fails lacking wanting left bytes known faults.EntryForm read own memory stop = own faults.EntryForm stop
+stops_along sound whole refused fails lacking wanting left bytes known faults.Digest read own memory stop = own faults.Digest stop
+stops_along sound whole refused fails lacking wanting left bytes known faults.Trailing read own memory stop = own faults.Trailing stop
+stops_along sound whole refused fails lacking wanting left bytes known faults.Write read own memory stop = own faults.Write stop
+
+-- a refusal that came after others
+pub refused_later : (only e : FileFault) (first old new : ℕ) → first ≤ old → (e ≡ only) × Grew old new × (old ≤ new) → (e ≡ only) × Grew first new × (first ≤ new)
+refused_later only e first old new before (is, grew, more) = (is, omega (arith, before, grew), omega (arith, before, more))

@@ -10,7 +10,7 @@ use Rattle.awari_file.specs.declared.sealing.Behind.TheVariants as behind
 use Rattle.awari_file.specs.declared.sealing.Unsealed.{Unsealed}
 use Rattle.awari_file.specs.FileText.{HasFile, body_text}
 use Rattle.awari_file.specs.Reading.{file_in, Fails}
-use Rattle.awari_file.specs.Source.{StopsIn, IsSoundSoFar, IsRefused, BeginsRight}
+use Rattle.awari_file.specs.Source.{StopsIn, StopsFor, IsSoundSoFar, IsRefused, BeginsRight}
 
 -- what came behind a digest, if no more came for this reason
 abbrev pub behind_by : List ℕ → FileFault → Behind
@@ -61,16 +61,12 @@ abbrev pub Seals : {X : Type 0} → Unsealed → Result X FileFault → Type 0
 Seals file (Ok x) = (file.loaded.digest ≡ digest_of file.loaded) × (file.behind ≡ behind.Nothing)
 Seals file (Err e) = ((file.loaded.digest ≢ digest_of file.loaded) × (e ≡ faults.Digest)) ⊎ ((file.loaded.digest ≡ digest_of file.loaded) × (fault_behind file.behind ≡ Some e))
 
--- Where reading stops with a fault. With 68 what came has no fault of its own, with 61 to 67 that one, and with 69 the header is
--- right, and so are the entries that are read at once.
-abbrev pub StopsBy : FileFault → List ℕ → Option (List ℕ) → Type 0
-StopsBy faults.Read bytes known = StopsIn IsSoundSoFar bytes known
-StopsBy faults.Memory bytes known = BeginsRight bytes
-StopsBy faults.Truncated bytes known = Unit {0}
-StopsBy e bytes known = StopsIn (IsRefused e) bytes known
+-- the same within a file: with 69 the header is right, and so are the entries that are read at once
+abbrev pub StopsBy : List ℕ → Option (List ℕ) → FileFault → Type 0
+StopsBy bytes known e = StopsFor IsSoundSoFar IsRefused (BeginsRight bytes) bytes known e
 
 abbrev pub Stops : List ℕ → Option (List ℕ) → FileFault → Type 0
-Stops bytes known e = Fails e (file_in bytes) × StopsBy e bytes known
+Stops bytes known e = Fails e (file_in bytes) × StopsBy bytes known e
 
 -- The faults of a reader that were counted, as a fault tells of them: one more with 68, and none with 60.
 abbrev pub Tells : FileFault → ℕ → ℕ → Type 0
@@ -78,8 +74,13 @@ Tells faults.Read old new = Grew old new
 Tells faults.Truncated old new = new ≡ old
 Tells e old new = old ≤ new
 
+-- the same of an answer, that tells of none if it is no fault
+abbrev pub TellsOf : {X : Type 0} → ℕ → ℕ → Result X FileFault → Type 0
+TellsOf old new (Ok x) = new ≡ old
+TellsOf old new (Err e) = Tells e old new
+
 -- the same, of what came behind a digest
 abbrev pub TellsBehind : Behind → ℕ → ℕ → Type 0
 TellsBehind behind.Nothing old new = new ≡ old
 TellsBehind behind.Byte old new = new ≡ old
-TellsBehind behind.Fault old new = Grew old new
+TellsBehind behind.Fault old new = Grew old new × (old ≤ new)

@@ -1,5 +1,5 @@
 -- What a reader has left, and what came before.
-use Rattle.std.specs.Prelude.{◌≡◌, ◌≢◌, ◌⊎◌, Bool, true, false, min, IsOk, ℕ, List, ◌++◌, Option, Some, Result, Ok, Err}
+use Rattle.std.specs.Prelude.{◌≡◌, ◌≢◌, ◌⊎◌, ◌<◌, ◌≤◌, Bool, true, false, min, IsOk, ℕ, List, ◌++◌, Option, Some, Result, Ok, Err}
 use Rattle.std.specs.Io.KnownBytes.{Appends, IsAtEnd}
 use Rattle.sha2.specs.Hashers.{Holds256}
 use Rattle.sha2.specs.declared.Sha256.{Sha256}
@@ -19,6 +19,20 @@ IsWhy faults.Truncated known old new = IsAtEnd known
 IsWhy faults.Read known old new = Grew old new
 IsWhy e known old new = ⊥
 
+-- Why no more bytes than so many came of those that were wanted: a fault of the reader is counted, and nothing else is.
+pub record EndsFor (short : FileFault) (count wanted : ℕ) (known : Option (List ℕ)) (old new : ℕ) : Type 0 where
+  pub why : count < wanted → IsWhy short known old new
+  pub read : short ≡ faults.Read → Grew old new
+  pub calm : short ≢ faults.Read → new ≡ old
+  pub whole : count ≡ wanted → new ≡ old
+  pub memory : short ≢ faults.Memory
+  pub faults : old ≤ new
+
+-- a refusal is this one alone, of a stream that answered a fault, which was counted
+abbrev pub RefusesAs : {X : Type 0} → FileFault → ℕ → ℕ → Result X FileFault → Type 0
+RefusesAs only old new (Ok x) = old ≤ new
+RefusesAs only old new (Err e) = (e ≡ only) × Grew old new × (old ≤ new)
+
 -- The reader stopped within what was left, and what came of it is of this kind.
 pub record StopsIn (P : List ℕ → Type 0) (left : List ℕ) (known : Option (List ℕ)) : Type 0 where
   pub came : List ℕ
@@ -34,6 +48,18 @@ Unfinished f came = f faults.Truncated came ≡ Err faults.Truncated
 -- what came of a field has this fault
 abbrev pub HasFault : {Z : Type 0} → FileFault → (FileFault → List ℕ → Result Z FileFault) → List ℕ → Type 0
 HasFault e f came = f faults.Truncated came ≡ Err e
+
+-- Where reading stops with a fault. With 68 what came is of the one kind, with a fault of its own it has that one, and with 69 the
+-- condition holds.
+abbrev pub StopsFor : (List ℕ → Type 0) → (FileFault → List ℕ → Type 0) → Type 0 → List ℕ → Option (List ℕ) → FileFault → Type 0
+StopsFor sound refused lacking left known faults.Read = StopsIn sound left known
+StopsFor sound refused lacking left known faults.Memory = lacking
+StopsFor sound refused lacking left known faults.Truncated = Unit {0}
+StopsFor sound refused lacking left known e = StopsIn (refused e) left known
+
+-- the same within a field
+abbrev pub StopsAt : {Y : Type 0} → (FileFault → List ℕ → Result Y FileFault) → Type 0 → List ℕ → Option (List ℕ) → FileFault → Type 0
+StopsAt f lacking left known e = StopsFor (Unfinished f) (λ d. HasFault d f) lacking left known e
 
 -- what came of a file has this fault
 abbrev pub IsRefused : FileFault → List ℕ → Type 0

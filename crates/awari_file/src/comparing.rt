@@ -9,7 +9,7 @@ ghost use Rattle.awari_table.specs.Spelling.{FitsNumbers};
 ghost use Rattle.awari_file.specs.FileText.{HasFile, entry_text, body_text, file_text};
 ghost use Rattle.awari_rank.specs.Rank.{size_of};
 ghost use Rattle.awari_file.specs.declared.sizes.TheConstants.{BUFFERED};
-ghost use Rattle.awari_file.specs.Source.{Meets};
+ghost use Rattle.awari_file.specs.Source.{Meets, RefusesAs};
 
 use crate::faults::FileFault;
 use crate::fields::VERSION;
@@ -27,9 +27,7 @@ fn has_next<R: Read>(reader: &mut Counted<R>, bytes: &[u8]) -> Result<bool, File
     requires { length bytes.now ≤ 4080 }
     ensures met { (left : List ℕ) → R.remaining (inner_of reader.old) ≡ Some left
         → IfOk result (λ met. Meets met left (R.remaining (inner_of reader.new)) bytes.now) }
-    ensures fault { IfErr result (λ fault. fault ≡ FileFault.Read) }
-    ensures grew { OnErr result (Grew (faults_of reader.old) (faults_of reader.new)) }
-    ensures faults { faults_of reader.old ≤ faults_of reader.new }
+    ensures refused { RefusesAs FileFault.Read (faults_of reader.old) (faults_of reader.new) result }
 {
     let mut buf = [0u8; BUFFER_LEN];
     let came = fill(reader, &mut buf, bytes.len());
@@ -74,9 +72,7 @@ fn has_run<R: Read>(
         → IfOk result (λ met. Meets met left (R.remaining (inner_of reader.new)) (flat_map entry_text (take count (drop from level.now.entries)))) }
     ensures holds { result ≡ Ok true → (m : List ℕ) → Holds256 hasher.old m → Holds256 hasher.new (m ++ flat_map entry_text (take count (drop from level.now.entries))) }
     ensures fit { All FitsNumbers (take count (drop from level.now.entries)) }
-    ensures fault { IfErr result (λ fault. fault ≡ FileFault.Read) }
-    ensures grew { OnErr result (Grew (faults_of reader.old) (faults_of reader.new)) }
-    ensures faults { faults_of reader.old ≤ faults_of reader.new }
+    ensures refused { RefusesAs FileFault.Read (faults_of reader.old) (faults_of reader.new) result }
 {
     let mut buf = [0u8; BUFFER_LEN];
     let len = spell_run(level, from, count, &mut buf);
@@ -98,9 +94,7 @@ fn has_entries<R: Read>(
         → IfOk result (λ met. Meets met left (R.remaining (inner_of reader.new)) (flat_map entry_text level.now.entries)) }
     ensures holds { result ≡ Ok true → (m : List ℕ) → Holds256 hasher.old m → Holds256 hasher.new (m ++ flat_map entry_text level.now.entries) }
     ensures fit { result ≡ Ok true → All FitsNumbers level.now.entries }
-    ensures fault { IfErr result (λ fault. fault ≡ FileFault.Read) }
-    ensures grew { OnErr result (Grew (faults_of reader.old) (faults_of reader.new)) }
-    ensures faults { faults_of reader.old ≤ faults_of reader.new }
+    ensures refused { RefusesAs FileFault.Read (faults_of reader.old) (faults_of reader.new) result }
 {
     let boards = size(level.number());
     let mut from: u32 = 0;

@@ -1,15 +1,15 @@
 //! Reading the file of a level.
 
-ghost use Rattle.std.specs.Prelude.{◌≡◌, ◌≢◌, ◌≤◌, ◌+◌, min, List, ℕ, IfErr, IfOk, MatchResult, OnOk, IsOk, IfSome, Some, Ok, Err};
+ghost use Rattle.std.specs.Prelude.{◌≡◌, ◌≢◌, ◌≤◌, ◌+◌, min, List, ℕ, IfErr, IfOk, MatchResult, IsOk, IfSome, Some, Ok, Err};
 ghost use Rattle.awari_table.specs.declared.TheConstants.{HIGHEST_LEVEL};
-ghost use Rattle.awari_streams.specs.Counted.{inner_of, faults_of, Grew};
+ghost use Rattle.awari_streams.specs.Counted.{inner_of, faults_of};
 ghost use Rattle.awari_table.specs.declared.images.Image.{Image};
 ghost use Rattle.awari_file.specs.declared.faults.FileFault.{FileFault};
 ghost use Rattle.awari_file.specs.declared.sizes.TheConstants.{BUFFERED};
 ghost use Rattle.awari_file.specs.FileText.{HasFile, IsFileOf, file_text, found_of};
-ghost use Rattle.awari_file.specs.Reading.{header_at, entries_at, file_in, IsOwn};
-ghost use Rattle.awari_file.specs.Source.{IsAt, StopsIn, Unfinished, HasFault, IsRefused, IsSoundSoFar, Advances, Adds, AddsAt, AddsOrLacks, Answers, BeginsRight, Judges};
-ghost use Rattle.awari_file.specs.Sealing.{Ends, EndsEarly, IsUnsealed, Stops, Tells, TellsBehind, behind_by};
+ghost use Rattle.awari_file.specs.Reading.{header_at, entries_at, file_in};
+ghost use Rattle.awari_file.specs.Source.{IsAt, StopsAt, Advances, Adds, AddsAt, AddsOrLacks, Answers, Judges};
+ghost use Rattle.awari_file.specs.Sealing.{Ends, EndsEarly, IsUnsealed, Stops, StopsBy, Tells, TellsBehind, TellsOf, behind_by};
 
 use crate::contents::{Header, Loaded};
 use crate::faults::FileFault;
@@ -29,15 +29,10 @@ fn read_header<R: Read>(reader: &mut Counted<R>) -> Result<Header, FileFault>
     ensures parsed { (whole left : List ℕ) → IsAt whole left (R.remaining (inner_of reader.old))
         → Advances (λ h. h) header_at whole left (R.remaining (inner_of reader.new)) result }
     ensures stops { (whole left : List ℕ) → IsAt whole left (R.remaining (inner_of reader.old))
-        → result ≡ Err FileFault.Read → StopsIn (Unfinished header_at) left (R.remaining (inner_of reader.new)) }
-    ensures whole { (whole left : List ℕ) (fault : FileFault) → IsAt whole left (R.remaining (inner_of reader.old))
-        → IsOwn fault → result ≡ Err fault → StopsIn (HasFault fault header_at) left (R.remaining (inner_of reader.new)) }
+        → IfErr result (StopsAt header_at ⊥ left (R.remaining (inner_of reader.new))) }
     ensures low { IfOk result (λ h. h.level ≤ HIGHEST_LEVEL) }
-    ensures clean { OnOk result (faults_of reader.new ≡ faults_of reader.old) }
-    ensures early { result ≡ Err FileFault.Truncated → faults_of reader.new ≡ faults_of reader.old }
-    ensures read { result ≡ Err FileFault.Read → Grew (faults_of reader.old) (faults_of reader.new) }
+    ensures counted { TellsOf (faults_of reader.old) (faults_of reader.new) result }
     ensures memory { result ≢ Err FileFault.Memory }
-    ensures faults { faults_of reader.old ≤ faults_of reader.new }
 {
     let mut buf = [0u8; HEADER_LEN];
     let came = fill(reader, &mut buf, HEADER_LEN);
@@ -117,15 +112,8 @@ fn read_some<R: Read>(
     ensures parsed { (whole left : List ℕ) → IsAt whole left (R.remaining (inner_of reader.old))
         → AddsAt entries.old entries.new count whole left (R.remaining (inner_of reader.new)) result }
     ensures stops { (whole left : List ℕ) → IsAt whole left (R.remaining (inner_of reader.old))
-        → result ≡ Err FileFault.Read → StopsIn (Unfinished (entries_at count)) left (R.remaining (inner_of reader.new)) }
-    ensures whole { (whole left : List ℕ) (fault : FileFault) → IsAt whole left (R.remaining (inner_of reader.old))
-        → IsOwn fault → result ≡ Err fault → StopsIn (HasFault fault (entries_at count)) left (R.remaining (inner_of reader.new)) }
-    ensures clean { OnOk result (faults_of reader.new ≡ faults_of reader.old) }
-    ensures early { result ≡ Err FileFault.Truncated → faults_of reader.new ≡ faults_of reader.old }
-    ensures read { result ≡ Err FileFault.Read → Grew (faults_of reader.old) (faults_of reader.new) }
-    ensures memory { (whole left : List ℕ) → IsAt whole left (R.remaining (inner_of reader.old))
-        → result ≡ Err FileFault.Memory → IsOk (entries_at count FileFault.Truncated left) }
-    ensures faults { faults_of reader.old ≤ faults_of reader.new }
+        → IfErr result (StopsAt (entries_at count) (IsOk (entries_at count FileFault.Truncated left)) left (R.remaining (inner_of reader.new))) }
+    ensures counted { TellsOf (faults_of reader.old) (faults_of reader.new) result }
 {
     let mut buf = [0u8; BUFFER_LEN];
     let came = fill(reader, &mut buf, count as usize * ENTRY_LEN);
@@ -143,18 +131,10 @@ fn read_entries<R: Read>(
 ) -> Result<(), FileFault>
     ensures parsed { (whole left : List ℕ) → IsAt whole left (R.remaining (inner_of reader.old))
         → AddsAt entries.old entries.new count whole left (R.remaining (inner_of reader.new)) result }
-    ensures stops { (whole left : List ℕ) → IsAt whole left (R.remaining (inner_of reader.old))
-        → result ≡ Err FileFault.Read → StopsIn (Unfinished (entries_at count)) left (R.remaining (inner_of reader.new)) }
-    ensures whole { (whole left : List ℕ) (fault : FileFault) → IsAt whole left (R.remaining (inner_of reader.old))
-        → IsOwn fault → result ≡ Err fault → StopsIn (HasFault fault (entries_at count)) left (R.remaining (inner_of reader.new)) }
-    ensures clean { OnOk result (faults_of reader.new ≡ faults_of reader.old) }
-    ensures early { result ≡ Err FileFault.Truncated → faults_of reader.new ≡ faults_of reader.old }
-    ensures read { result ≡ Err FileFault.Read → Grew (faults_of reader.old) (faults_of reader.new) }
-
     // With 69, the entries that are read at once have come, and are right.
-    ensures memory { (whole left : List ℕ) → IsAt whole left (R.remaining (inner_of reader.old))
-        → result ≡ Err FileFault.Memory → IsOk (entries_at (min count BUFFERED) FileFault.Truncated left) }
-    ensures faults { faults_of reader.old ≤ faults_of reader.new }
+    ensures stops { (whole left : List ℕ) → IsAt whole left (R.remaining (inner_of reader.old))
+        → IfErr result (StopsAt (entries_at count) (IsOk (entries_at (min count BUFFERED) FileFault.Truncated left)) left (R.remaining (inner_of reader.new))) }
+    ensures counted { TellsOf (faults_of reader.old) (faults_of reader.new) result }
 {
     let mut left = count;
     while left > 0 {
@@ -257,22 +237,12 @@ pub fn read_image<R: Read>(alloc: Global, reader: &mut Counted<R>) -> Result<Loa
     ensures exact { IfSome (R.remaining (inner_of reader.old)) (λ bytes. Answers (λ loaded. loaded) result (file_in bytes)) }
 
     // An image and 60 come only from a reader that answered no fault, and 68 only from one that did.
-    ensures clean { OnOk result (faults_of reader.new ≡ faults_of reader.old) }
-    ensures early { result ≡ Err FileFault.Truncated → faults_of reader.new ≡ faults_of reader.old }
-    ensures read { result ≡ Err FileFault.Read → Grew (faults_of reader.old) (faults_of reader.new) }
+    ensures counted { TellsOf (faults_of reader.old) (faults_of reader.new) result }
 
-    // With 68, what came before has no fault of its own.
-    ensures in_order { result ≡ Err FileFault.Read
-        → IfSome (R.remaining (inner_of reader.old)) (λ bytes. StopsIn IsSoundSoFar bytes (R.remaining (inner_of reader.new))) }
-
-    // With 61 to 67, it is the fault of what came: the field that has it came whole, and with 67 a
-    // byte behind the digest.
-    ensures whole { (fault : FileFault) → IsOwn fault → result ≡ Err fault
-        → IfSome (R.remaining (inner_of reader.old)) (λ bytes. StopsIn (IsRefused fault) bytes (R.remaining (inner_of reader.new))) }
-
-    // With 69, the header is right, and so are the first 680 entries, or all if there are fewer.
-    ensures memory { result ≡ Err FileFault.Memory
-        → IfSome (R.remaining (inner_of reader.old)) BeginsRight }
+    // With 68, what came before has no fault of its own. With 61 to 67, it is the fault of what came: the
+    // field that has it came whole, and with 67 a byte behind the digest. With 69, the header is right,
+    // and so are the first 680 entries, or all if there are fewer.
+    ensures stops { IfSome (R.remaining (inner_of reader.old)) (λ bytes. IfErr result (StopsBy bytes (R.remaining (inner_of reader.new)))) }
 {
     let file = read_unsealed(alloc, reader)?;
     file.seal()?;

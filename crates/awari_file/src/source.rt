@@ -1,10 +1,10 @@
 //! Pieces of the input, each asked for until it is whole.
 
-ghost use Rattle.std.specs.Prelude.{◌≡◌, ◌≢◌, ◌≤◌, ◌<◌, length, take};
+ghost use Rattle.std.specs.Prelude.{◌≤◌, length, take};
 ghost use Rattle.std.specs.Io.KnownBytes.{Consumes};
-ghost use Rattle.awari_streams.specs.Counted.{inner_of, faults_of, Grew};
+ghost use Rattle.awari_streams.specs.Counted.{inner_of, faults_of};
 ghost use Rattle.awari_file.specs.FileText.{IsBytes};
-ghost use Rattle.awari_file.specs.Source.{IsWhy};
+ghost use Rattle.awari_file.specs.Source.{EndsFor};
 
 use crate::faults::FileFault;
 use awari_streams::Counted;
@@ -22,14 +22,8 @@ pub(crate) fn fill<R: Read>(reader: &mut Counted<R>, buf: &mut [u8], wanted: usi
     requires { wanted ≤ length buf.old }
     ensures count { result.count ≤ wanted }
     ensures bytes { Consumes (R.remaining (inner_of reader.old)) (R.remaining (inner_of reader.new)) (take result.count buf.new) }
-    ensures why { result.count < wanted
-        → IsWhy result.short (R.remaining (inner_of reader.new)) (faults_of reader.old) (faults_of reader.new) }
-    ensures read { result.short ≡ FileFault.Read → Grew (faults_of reader.old) (faults_of reader.new) }
-    ensures calm { result.short ≢ FileFault.Read → faults_of reader.new ≡ faults_of reader.old }
-    ensures whole { result.count ≡ wanted → faults_of reader.new ≡ faults_of reader.old }
-    ensures memory { result.short ≢ FileFault.Memory }
+    ensures ends { EndsFor result.short result.count wanted (R.remaining (inner_of reader.new)) (faults_of reader.old) (faults_of reader.new) }
     ensures range { IsBytes buf.new }
-    ensures faults { faults_of reader.old ≤ faults_of reader.new }
 {
     let mut count = 0;
     while count < wanted {

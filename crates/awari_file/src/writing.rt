@@ -10,7 +10,7 @@ ghost use Rattle.awari_streams.specs.Counted.{inner_of, faults_of, Grew};
 ghost use Rattle.awari_table.specs.Spelling.{FitsNumbers};
 ghost use Rattle.awari_file.specs.declared.sizes.TheConstants.{BUFFERED};
 ghost use Rattle.awari_file.specs.FileText.{HasFile, header_text, entry_text, body_text, file_text};
-ghost use Rattle.awari_file.specs.Source.{Puts};
+ghost use Rattle.awari_file.specs.Source.{Puts, RefusesAs};
 
 use crate::faults::FileFault;
 use crate::fields::{MAGIC, NO_PLAN, VERSION};
@@ -56,9 +56,7 @@ fn put<W: Write>(
     bytes: &[u8],
 ) -> Result<(), FileFault>
     ensures ok { OnOk result (Puts (W.contents (inner_of writer.old)) (W.contents (inner_of writer.new)) hasher.old hasher.new bytes.now) }
-    ensures err { OnErr result (Grew (faults_of writer.old) (faults_of writer.new)) }
-    ensures write { IfErr result (λ e. e ≡ FileFault.Write) }
-    ensures faults { faults_of writer.old ≤ faults_of writer.new }
+    ensures refused { RefusesAs FileFault.Write (faults_of writer.old) (faults_of writer.new) result }
 {
     match writer.write_all(bytes) {
         Ok(()) => {
@@ -112,9 +110,7 @@ fn put_run<W: Write>(
     requires few { count ≤ BUFFERED }
     ensures ok { OnOk result (Puts (W.contents (inner_of writer.old)) (W.contents (inner_of writer.new)) hasher.old hasher.new (flat_map entry_text (take count (drop from level.now.entries)))) }
     ensures fit { All FitsNumbers (take count (drop from level.now.entries)) }
-    ensures err { OnErr result (Grew (faults_of writer.old) (faults_of writer.new)) }
-    ensures write { IfErr result (λ e. e ≡ FileFault.Write) }
-    ensures faults { faults_of writer.old ≤ faults_of writer.new }
+    ensures refused { RefusesAs FileFault.Write (faults_of writer.old) (faults_of writer.new) result }
 {
     let mut buf = [0u8; BUFFER_LEN];
     let len = spell_run(level, from, count, &mut buf);
@@ -129,9 +125,7 @@ fn put_entries<W: Write>(
 ) -> Result<(), FileFault>
     ensures ok { OnOk result (Puts (W.contents (inner_of writer.old)) (W.contents (inner_of writer.new)) hasher.old hasher.new (flat_map entry_text level.now.entries)) }
     ensures fit { OnOk result (All FitsNumbers level.now.entries) }
-    ensures err { OnErr result (Grew (faults_of writer.old) (faults_of writer.new)) }
-    ensures write { IfErr result (λ e. e ≡ FileFault.Write) }
-    ensures faults { faults_of writer.old ≤ faults_of writer.new }
+    ensures refused { RefusesAs FileFault.Write (faults_of writer.old) (faults_of writer.new) result }
 {
     let boards = size(level.number());
     let mut from = 0u32;

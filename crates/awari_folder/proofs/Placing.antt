@@ -2,7 +2,6 @@
 use Rattle.std.proofs.Common.{◌≡◌, ◌≢◌, ◌∙◌, List, [], ℕ, Option, Some, None, Result, Ok, Err, ap, arith, inl, inr, length, min, subst, sym, take}
 use Rattle.std.specs.Prelude.{◌≤◌, ◌-◌, IfErr, IfOk, IfSome, IsSomeAnd, MatchResult, ⊤}
 use Rattle.awari_rank.specs.Rank.{size_of}
-use Rattle.awari_streams.specs.Counted.{Grew}
 use Rattle.awari_table.specs.declared.images.Entry.{Entry}
 use Rattle.awari_table.specs.declared.images.Image.{Image}
 use Rattle.awari_file.specs.declared.faults.FileFault.{FileFault}
@@ -14,7 +13,7 @@ use Rattle.awari_file.specs.declared.contents.Loaded.{Loaded}
 use Rattle.awari_file.specs.declared.sealing.Behind.{Behind}
 use Rattle.awari_file.specs.declared.sealing.Behind.TheVariants as behinds
 use Rattle.awari_file.specs.Reading.{◌>>=◌, Fails, end_at, entries_at, file_in, header_at}
-use Rattle.awari_file.specs.Sealing.{IsUnsealed, Seals, Stops, Tells, TellsBehind, fault_behind}
+use Rattle.awari_file.specs.Sealing.{IsUnsealed, Seals, Stops, Tells, TellsBehind, TellsOf, fault_behind}
 use Rattle.awari_file.specs.Source.{BeginsRight}
 use Rattle.awari_file.proofs.FieldLaws.{bind_ok}
 use Rattle.awari_file.proofs.Loop.{nothing_yet, ok_from, some_right}
@@ -92,7 +91,7 @@ tells_read reads.Write e level old new is tells = tt
 tells_fault : (b : Behind) (fault : FileFault) (level old new : ℕ) → fault_behind b ≡ Some fault → TellsBehind b old new → TellsReader (File level fault) old new
 tells_fault behinds.Nothing fault level old new is tells = absurd cc
 tells_fault behinds.Byte fault level old new is tells = let e : reads.Trailing ≡ fault = cc in subst (λ (f : FileFault). TellsReader (File level f) old new) e tt
-tells_fault behinds.Fault fault level old new is tells = let e : reads.Read ≡ fault = cc in subst (λ (f : FileFault). TellsReader (File level f) old new) e tells
+tells_fault behinds.Fault fault level old new is tells = let e : reads.Read ≡ fault = cc in subst (λ (f : FileFault). TellsReader (File level f) old new) e tells.0
 
 tells_seal : (file : Unsealed) (fault : FileFault) (level old new : ℕ) → Seals {X = ⊤} file (Err fault) → TellsBehind file.behind old new → TellsReader (File level fault) old new
 tells_seal file fault level old new (inl wrong) tells = subst (λ (f : FileFault). TellsReader (File level f) old new) (sym wrong.1) tt
@@ -112,20 +111,10 @@ tells_reader lacks shelf below read (Old level) old new told counted = tt
 
 -- the same of a file that was read whole
 pub tells_loaded : (shelf : List Image) (below : List ℕ) (read : Result Loaded FileFault) (fault : FolderFault) (old new : ℕ) → IsMigratedOf shelf below read fault
-    → (read ≡ Err reads.Read → Grew old new) → TellsReader fault old new
+    → TellsOf old new read → TellsReader fault old new
 tells_loaded shelf below read (Below level) old new told counted = tt
 tells_loaded shelf below (Ok loaded) (File level fault) old new told counted = absurd told
-tells_loaded shelf below (Err e) (File level reads.Read) old new told counted = counted (ap (λ (f : FileFault). Err f) (sym told))
-tells_loaded shelf below (Err e) (File level reads.Truncated) old new told counted = tt
-tells_loaded shelf below (Err e) (File level reads.Magic) old new told counted = tt
-tells_loaded shelf below (Err e) (File level reads.Version) old new told counted = tt
-tells_loaded shelf below (Err e) (File level reads.LevelOutOfRange) old new told counted = tt
-tells_loaded shelf below (Err e) (File level reads.Count) old new told counted = tt
-tells_loaded shelf below (Err e) (File level reads.EntryForm) old new told counted = tt
-tells_loaded shelf below (Err e) (File level reads.Digest) old new told counted = tt
-tells_loaded shelf below (Err e) (File level reads.Trailing) old new told counted = tt
-tells_loaded shelf below (Err e) (File level reads.Memory) old new told counted = tt
-tells_loaded shelf below (Err e) (File level reads.Write) old new told counted = tt
+tells_loaded shelf below (Err e) (File level fault) old new told counted = tells_read fault e level old new told counted
 tells_loaded shelf below read (Open level) old new told counted = tt
 tells_loaded shelf below read (Verify level fault) old new told counted = tt
 tells_loaded shelf below read Memory old new told counted = tt
@@ -134,7 +123,7 @@ tells_loaded shelf below read (Old level) old new told counted = tt
 
 -- the same of what was answered
 pub tells_all_loaded : {T : Type 0} (shelf : List Image) (below : List ℕ) (read : Result Loaded FileFault) (result : Result T FolderFault) (old new : ℕ) → IfErr result (IsMigratedOf shelf below read)
-    → (read ≡ Err reads.Read → Grew old new) → IfErr result (λ fault. TellsReader fault old new)
+    → TellsOf old new read → IfErr result (λ fault. TellsReader fault old new)
 tells_all_loaded shelf below read (Ok x) old new told counted = tt
 tells_all_loaded shelf below read (Err fault) old new told counted = tells_loaded shelf below read fault old new told counted
 

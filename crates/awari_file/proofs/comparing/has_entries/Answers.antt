@@ -34,6 +34,6 @@ loop-from-preserved g c =
           (met_more left done run _ _ (was.met left known) (λ rest at. met_as _ true rest _ _ _ c.if-not-branch.false refl (c.in_ok-has_run.ensures.met rest at)));
       holds = λ m held. subst (λ (l : List ℕ). Holds256 c.has_run.new.hasher (m ++ l)) (sym (run_more entries from count))
           (subst (Holds256 c.has_run.new.hasher) (append_assoc m done run) (c.in_ok-has_run.ensures.holds (ap (λ (b : Bool). Ok b) c.if-not-branch.false) (m ++ done) (was.holds m held)));
-      faults = omega (arith, was.faults, c.has_run.ensures.faults);
+      faults = omega (arith, was.faults, c.in_ok-has_run.ensures.refused);
       fit = subst (All FitsNumbers) (sym (take-add from count entries)) (All-append FitsNumbers (take from entries) _ was.fit c.has_run.ensures.fit);
     }

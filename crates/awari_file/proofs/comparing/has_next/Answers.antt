@@ -9,11 +9,9 @@ returns-in_default g c =
     let size = length-take c.fill-came.result.count c.fill-came.new.buf in
     record {
       met = λ left known. short_of left front c.args.bytes.now _ _ known c.fill-came.ensures.bytes
-          (ended c.fill-came.result.short _ _ _ (c.fill-came.ensures.why c.if-came-bytes.true) c.in_default.not-Read)
+          (ended c.fill-came.result.short _ _ _ (c.fill-came.ensures.ends.why c.if-came-bytes.true) c.in_default.not-Read)
           (omega (arith, size, c.if-came-bytes.true));
-      fault = tt;
-      grew = tt;
-      faults = c.fill-came.ensures.faults;
+      refused = c.fill-came.ensures.ends.faults;
     }
 
 pub returns-clause-met : goal.returns-clause-met

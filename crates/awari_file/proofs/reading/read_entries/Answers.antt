@@ -1,14 +1,17 @@
-use Rattle.std.proofs.Common.{◌≡◌, ◌≤◌, ◌*◌, ◌∙◌, ◌++◌, [], List, ℕ, Err, refl, sym, ap, arith, min, append_assoc}
+use Rattle.std.proofs.Common.{◌≡◌, ◌≤◌, ◌*◌, ◌∙◌, ◌++◌, [], List, ℕ, refl, sym, ap, arith, min, append_assoc, subst}
 use Rattle.std.proofs.lemmas.List.{append-nil}
 use Rattle.std.proofs.lemmas.Result.{err_from_is_err_and}
+use Rattle.awari_streams.specs.Counted.{inner_of, faults_of}
 use Rattle.awari_table.specs.declared.images.Entry.{Entry}
 use Rattle.awari_file.specs.declared.faults.FileFault.{FileFault}
-use Rattle.awari_file.specs.declared.faults.FileFault.TheVariants.{Truncated, Read, Memory}
+use Rattle.awari_file.specs.declared.faults.FileFault.TheVariants.{Truncated}
 use Rattle.awari_file.specs.declared.sizes.TheConstants.{BUFFERED}
 use Rattle.awari_file.specs.Reading.{entries_at}
+use Rattle.awari_file.specs.Sealing.{Tells}
+use Rattle.awari_file.specs.Source.{HasFault, StopsIn}
 use Rattle.awari_file.proofs.FieldLaws.{took}
 use Rattle.awari_file.proofs.FileLaws.{entries-is, fails_along}
-use Rattle.awari_file.proofs.Steps.{fault_was}
+use Rattle.awari_file.proofs.Steps.{stops_along}
 use Rattle.awari_file.proofs.Loop.{with_front-nil, nothing_yet, more_come, some_right, some_go_on, some_end, all_done}
 use Rattle.awari_file.proofs.reading.read_entries.Goals as goal
 
@@ -30,46 +33,27 @@ returns-in_err-read_some-clause-parsed g c = λ whole left here.
     (c.in_err-read_some.ensures.parsed whole rest at))
 
 pub returns-in_err-read_some-clause-stops : goal.returns-in_err-read_some-clause-stops
-returns-in_err-read_some-clause-stops g c = λ whole left here is.
+returns-in_err-read_some-clause-stops g c = λ whole left here.
     let p = err_from_is_err_and c.from_residual.result c.from_residual.ensures.1 in
-    let same : c.in_err-read_some.field-0.0 ≡ Read = sym p.2 ∙ fault_was c.from_residual.result p.0 Read p.1 is in
     let (new, rest, taken, items, at, parts, so_far, come) = c.loop-left.invariant.read whole left here in
     let a = c.min-some.result in
     let le : a ≤ c.loop-left.left = omega (arith, c.min-some.ensures) in
-    let stop = c.in_err-read_some.ensures.stops whole rest at (ap (λ (e : FileFault). Err e) same) in
-    record {
+    let known = g.R.Read.remaining (inner_of c.read_some.new.reader) in
+    let along : (d : FileFault) → StopsIn (HasFault d (entries_at a)) rest known → StopsIn (HasFault d (entries_at c.args.count)) left known = λ d stop. record {
       came = taken ++ stop.came;
       rest = stop.rest;
       known_is = stop.known_is;
       parts = parts ∙ ap (λ (l : List ℕ). taken ++ l) stop.parts ∙ sym (append_assoc taken stop.came stop.rest);
-      kind = some_end Truncated new c.loop-left.left a Truncated stop.came (entries_at c.args.count Truncated (taken ++ stop.came)) le (so_far stop.came) stop.kind;
-    }
+      kind = some_end d new c.loop-left.left a Truncated stop.came (entries_at c.args.count Truncated (taken ++ stop.came)) le (so_far stop.came) stop.kind;
+    } in
+    rw (p.1, p.2) (stops_along _ _ (λ d. HasFault d (entries_at a)) (λ d. HasFault d (entries_at c.args.count)) _ _ rest left known c.in_err-read_some.field-0.0 (along Truncated) along
+    (some_right new c.loop-left.left a (min c.args.count BUFFERED) Truncated rest c.args.count left (omega (arith, c.min-some.ensures, c.loop-left.invariant.within)) c.loop-left.invariant.within le come)
+    (c.in_err-read_some.ensures.stops whole rest at))
 
-pub returns-in_err-read_some-clause-whole : goal.returns-in_err-read_some-clause-whole
-returns-in_err-read_some-clause-whole g c = λ whole left e here own is.
+pub returns-in_err-read_some-clause-counted : goal.returns-in_err-read_some-clause-counted
+returns-in_err-read_some-clause-counted g c =
     let p = err_from_is_err_and c.from_residual.result c.from_residual.ensures.1 in
-    let same : c.in_err-read_some.field-0.0 ≡ e = sym p.2 ∙ fault_was c.from_residual.result p.0 e p.1 is in
-    let (new, rest, taken, items, at, parts, so_far, come) = c.loop-left.invariant.read whole left here in
-    let a = c.min-some.result in
-    let le : a ≤ c.loop-left.left = omega (arith, c.min-some.ensures) in
-    let stop = c.in_err-read_some.ensures.whole whole rest e at own (ap (λ (d : FileFault). Err d) same) in
-    record {
-      came = taken ++ stop.came;
-      rest = stop.rest;
-      known_is = stop.known_is;
-      parts = parts ∙ ap (λ (l : List ℕ). taken ++ l) stop.parts ∙ sym (append_assoc taken stop.came stop.rest);
-      kind = some_end e new c.loop-left.left a Truncated stop.came (entries_at c.args.count Truncated (taken ++ stop.came)) le (so_far stop.came) stop.kind;
-    }
-
-pub returns-in_err-read_some-clause-memory : goal.returns-in_err-read_some-clause-memory
-returns-in_err-read_some-clause-memory g c = λ whole left here is.
-    let p = err_from_is_err_and c.from_residual.result c.from_residual.ensures.1 in
-    let same : c.in_err-read_some.field-0.0 ≡ Memory = sym p.2 ∙ fault_was c.from_residual.result p.0 Memory p.1 is in
-    let (new, rest, taken, items, at, parts, so_far, come) = c.loop-left.invariant.read whole left here in
-    let a = c.min-some.result in
-    let le : a ≤ c.loop-left.left = omega (arith, c.min-some.ensures) in
-    some_right new c.loop-left.left a (min c.args.count BUFFERED) Truncated rest c.args.count left (omega (arith, c.min-some.ensures, c.loop-left.invariant.within)) c.loop-left.invariant.within le come
-    (c.in_err-read_some.ensures.memory whole rest at (ap (λ (e : FileFault). Err e) same))
+    rw (p.1, p.2) (subst (λ (n : ℕ). Tells c.in_err-read_some.field-0.0 n (faults_of c.read_some.new.reader)) c.loop-left.invariant.faults c.in_err-read_some.ensures.counted)
 
 pub loop-left-preserved : goal.loop-left-preserved
 loop-left-preserved g c =
@@ -77,7 +61,7 @@ loop-left-preserved g c =
     let le : a ≤ c.loop-left.left = omega (arith, c.min-some.ensures) in
     record {
       within = omega (arith, c.loop-left.invariant.within);
-      faults = c.in_ok-read_some.ensures.clean ∙ c.loop-left.invariant.faults;
+      faults = c.in_ok-read_some.ensures.counted ∙ c.loop-left.invariant.faults;
       read = λ whole left here.
           let (new, rest, taken, items, at, parts, so_far, come) = c.loop-left.invariant.read whole left here in
           let (more, after, items2, at2, gives) = c.in_ok-read_some.ensures.parsed whole rest at in

@@ -1,14 +1,15 @@
-use Rattle.std.proofs.Common.{◌≡◌, ◌∙◌, ◌++◌, [], ℕ, List, Err, sym, ap, subst, min}
+use Rattle.std.proofs.Common.{◌≡◌, ◌∙◌, ◌++◌, [], ℕ, List, sym, ap, subst, min}
 use Rattle.std.specs.Prelude.{IsOk}
 use Rattle.std.proofs.lemmas.Result.{err_from_is_err_and}
 use Rattle.awari_table.specs.declared.images.Entry.{Entry}
-use Rattle.awari_file.specs.declared.faults.FileFault.{FileFault}
 use Rattle.awari_file.specs.declared.faults.FileFault.TheVariants.{Truncated}
 use Rattle.awari_file.specs.declared.sizes.TheConstants.{BUFFERED}
-use Rattle.awari_file.specs.Reading.{entries_at}
+use Rattle.awari_file.specs.Reading.{entries_at, header_at}
+use Rattle.awari_file.specs.Source.{HasFault, IsRefused}
 use Rattle.awari_file.proofs.WholeLaws.{start_at, header_bad, entries_bad, stops_in_header, stops_in_entries, fault_in_header, fault_in_entries}
 use Rattle.awari_file.proofs.WholeSpell.{body_taken}
-use Rattle.awari_file.proofs.Sealed.{known_unsealed, known_stops, taken_as, unsealed_of, end_stops, stops_by, same_fault}
+use Rattle.awari_file.proofs.Sealed.{known_unsealed, known_stops, taken_as, unsealed_of, end_stops}
+use Rattle.awari_file.proofs.Steps.{stops_along}
 use Rattle.awari_file.proofs.reading.read_unsealed.Goals as goal
 
 pub returns-in_err-version-clause-fault : goal.returns-in_err-version-clause-fault
@@ -18,9 +19,7 @@ returns-in_err-version-clause-fault g c =
     rw (p.1, p.2) (known_stops _ _ e (λ xs known.
     let start = start_at xs _ known in (
       header_bad e xs (c.in_err-version.ensures.parsed xs xs start),
-      stops_by e xs _ (λ is. stops_in_header xs _ (c.in_err-version.ensures.stops xs xs start (ap (λ (f : FileFault). Err f) is)))
-          (λ is. absurd (c.in_err-version.ensures.memory (ap (λ (f : FileFault). Err f) is)))
-          (λ own. fault_in_header e xs _ (c.in_err-version.ensures.whole xs xs e start own (ap (λ (f : FileFault). Err f) (same_fault e)))),
+      stops_along _ _ (λ d. HasFault d header_at) IsRefused _ _ xs xs _ e (stops_in_header xs _) (λ d stop. fault_in_header d xs _ stop) (λ never. absurd never) (c.in_err-version.ensures.stops xs xs start),
     )))
 
 pub returns-in_err-read_entries-clause-fault : goal.returns-in_err-read_entries-clause-fault
@@ -32,9 +31,8 @@ returns-in_err-read_entries-clause-fault g c =
     let (rest, at, header) = c.in_ok-version.ensures.parsed xs xs start in
     let n = c.size.ensures.boards in (
       entries_bad e xs _ rest c.size.result n header (c.in_err-read_entries.ensures.parsed xs rest at),
-      stops_by e xs _ (λ is. stops_in_entries xs _ rest c.size.result _ n header (c.in_err-read_entries.ensures.stops xs rest at (ap (λ (f : FileFault). Err f) is)))
-          (λ is. (_, rest, header, subst (λ (k : ℕ). IsOk (entries_at (min k BUFFERED) Truncated rest)) n (c.in_err-read_entries.ensures.memory xs rest at (ap (λ (f : FileFault). Err f) is))))
-          (λ own. fault_in_entries e xs _ rest c.size.result _ n header (c.in_err-read_entries.ensures.whole xs rest e at own (ap (λ (f : FileFault). Err f) (same_fault e)))),
+      stops_along _ _ (λ d. HasFault d (entries_at c.size.result)) IsRefused _ _ rest xs _ e (stops_in_entries xs _ rest c.size.result _ n header) (λ d stop. fault_in_entries d xs _ rest c.size.result _ n header stop)
+          (λ right. (_, rest, header, subst (λ (k : ℕ). IsOk (entries_at (min k BUFFERED) Truncated rest)) n right)) (c.in_err-read_entries.ensures.stops xs rest at),
     )))
 
 pub returns-in_err-digest-clause-fault : goal.returns-in_err-digest-clause-fault
