@@ -10,7 +10,7 @@ use Rattle.awari_board.specs.Rules.{IsLegal, IsMove, captured, next_board}
 use Rattle.awari_board.specs.Tests.{is_ended, is_legal}
 use Rattle.awari_rank.proofs.Counting.{total-zero, total-add-one, total-grows}
 use Rattle.awari_rank.specs.Tuples.{total}
-use Rattle.awari_boards.specs.Plays.{AreCounts, IsUncounted, by_move, one, one_if_captures, one_if_ended, over_plays}
+use Rattle.awari_boards.specs.Plays.{AreCounts, IsUncounted, PlaysAreMost, by_move, one, one_if_captures, one_if_ended, over_plays}
 use Rattle.awari_boards.specs.declared.sums.PlayCounts.{PlayCounts}
 
 by_move-legal : (number : ℕ → List ℕ → ℕ) (board next : List ℕ) (x c : ℕ) → IsMove board x c next → by_move number board x ≡ number c next
@@ -68,12 +68,7 @@ one-ended last board = go (is_ended board)
     go true = omega arith
     go false = omega arith
 
--- the plays are the greatest of the three numbers
-pub record Fits (counts : PlayCounts) : Type 0 where
-  pub captures : counts.captures ≤ counts.plays
-  pub ends : counts.ends ≤ counts.plays
-
-pub counts-fit : (n before : ℕ) (board : List ℕ) (counts : PlayCounts) → AreCounts n before board counts → Fits counts
+pub counts-fit : (n before : ℕ) (board : List ℕ) (counts : PlayCounts) → AreCounts n before board counts → PlaysAreMost counts
 counts-fit n before board counts are = record {
   captures = omega (arith, are.captures, are.plays, over_plays-le one_if_captures one n before board one-captures);
   ends = omega (arith, are.ends, are.plays, over_plays-le one_if_ended one n before board one-ended);
@@ -85,7 +80,7 @@ pub record Counting (n : ℕ) (board : List ℕ) (pits : ℕ) (counts : PlayCoun
   pub captures : counts.captures ≡ total (by_move (over_plays one_if_captures n) board) pits
   pub ends : counts.ends ≡ total (by_move (over_plays one_if_ended n) board) pits
 
-pub counting-fits : (n : ℕ) (board : List ℕ) (pits : ℕ) (counts : PlayCounts) → Counting n board pits counts → Fits counts
+pub counting-fits : (n : ℕ) (board : List ℕ) (pits : ℕ) (counts : PlayCounts) → Counting n board pits counts → PlaysAreMost counts
 counting-fits n board pits counts so_far = record {
   captures = omega (arith, so_far.captures, so_far.plays, total-le _ _ pits (by_move-le (over_plays one_if_captures n) (over_plays one n) board (λ c b. over_plays-le one_if_captures one n c b one-captures)));
   ends = omega (arith, so_far.ends, so_far.plays, total-le _ _ pits (by_move-le (over_plays one_if_ended n) (over_plays one n) board (λ c b. over_plays-le one_if_ended one n c b one-ended)));

@@ -40,6 +40,11 @@ pub record AreCounts (n before : ℕ) (board : List ℕ) (counts : PlayCounts) :
   pub captures : counts.captures ≡ over_plays one_if_captures n before board
   pub ends : counts.ends ≡ over_plays one_if_ended n before board
 
+-- the plays are the greatest of the three numbers
+pub record PlaysAreMost (counts : PlayCounts) : Type 0 where
+  pub captures : counts.captures ≤ counts.plays
+  pub ends : counts.ends ≤ counts.plays
+
 -- the text spells a board with this many plays
 abbrev pub IsCounted : List ℕ → ℕ → PlayCounts → Type 0
 IsCounted text n counts = (board : List ℕ) × IsBoard board × (text ≡ text_of board) × AreCounts n 0 board counts

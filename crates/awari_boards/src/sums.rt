@@ -1,6 +1,7 @@
 //! The numbers of plays, which are added up while they fit.
 
 ghost use Rattle.std.specs.Prelude.{◌≡◌, ◌+◌, ◌≤◌, ◌^◌, IfSome, IsNone};
+ghost use Rattle.awari_boards.specs.Plays.{PlaysAreMost};
 
 use std::fmt;
 
@@ -25,13 +26,9 @@ impl PlayCounts {
 
     /// The sums of the numbers, if that of the plays fits. Condition: in both the plays are the greatest.
     pub(crate) fn plus(self, more: PlayCounts) -> Option<PlayCounts>
-        requires captures { self.captures ≤ self.plays }
-        requires ends { self.ends ≤ self.plays }
-        requires more_captures { more.captures ≤ more.plays }
-        requires more_ends { more.ends ≤ more.plays }
-        ensures plays { IfSome result (λ sum. sum.plays ≡ self.plays + more.plays) }
-        ensures captures { IfSome result (λ sum. sum.captures ≡ self.captures + more.captures) }
-        ensures ends { IfSome result (λ sum. sum.ends ≡ self.ends + more.ends) }
+        requires own { PlaysAreMost self }
+        requires more { PlaysAreMost more }
+        ensures sums { IfSome result (λ sum. (sum.plays ≡ self.plays + more.plays) × (sum.captures ≡ self.captures + more.captures) × (sum.ends ≡ self.ends + more.ends)) }
         ensures none { IsNone result → 2 ^ 64 ≤ self.plays + more.plays }
     {
         let plays = self.plays.checked_add(more.plays)?;

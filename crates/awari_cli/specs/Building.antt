@@ -2,21 +2,19 @@
 use Rattle.std.specs.Prelude.{◌≡◌, ◌<◌, ◌≤◌, ◌⊎◌, ◌+◌, ℕ, List, [], ◌∷◌, ◌++◌, length, Option, None, Some}
 use Rattle.std.specs.Io.KnownBytes.{Appends}
 use Rattle.awari_answers.specs.LevelLines.{level_line, level_lines}
-use Rattle.awari_build.specs.BuildFault.{fault_text as build_fault_text}
-use Rattle.awari_folder.specs.FolderFault.{fault_text as folder_fault_text}
 use Rattle.awari_play.specs.Least.{HasLowestPlans}
 use Rattle.awari_table.specs.Shelves.{Consistent, IsShelf}
 use Rattle.awari_table.specs.declared.images.Image.{Image}
 use Rattle.awari_folder.specs.Contents.{AreNames, HoldsIn, IsStored, LeavesNoMore, Same, SameBut}
 use Rattle.awari_folder.specs.Migration.{IsWholeFile, KeepsFiles}
 use Rattle.awari_folder.specs.State.{State}
-use Rattle.awari_cli.specs.declared.building.BuildingFault.{BuildingFault}
-use Rattle.awari_cli.specs.declared.building.BuildingFault.TheVariants.{Build, Folder}
 
--- the fault inside it
-abbrev pub building_fault_text : BuildingFault → List ℕ
-building_fault_text (Build fault) = build_fault_text fault
-building_fault_text (Folder fault) = folder_fault_text fault
+-- The shelf is longer by levels that were built, up to `top` at least, and their lines were written. Plans stay the lowest.
+pub record BuildsTo (top : ℕ) (old new : List Image) (before after : Option (List ℕ)) : Type 0 where
+  pub shelf : IsShelf new
+  pub high : top < length new
+  pub built : (built : List Image) × (new ≡ old ++ built) × Appends before after (level_lines built)
+  pub planned : HasLowestPlans old → HasLowestPlans new
 
 -- Where it is known what a folder's names have: the levels below were stored in it, and now it holds those and the ones that
 -- were built on them.

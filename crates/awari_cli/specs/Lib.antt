@@ -1,3 +1,4 @@
+pub mod CommandFault
 pub mod Done
 pub mod Estimates
 pub mod Building

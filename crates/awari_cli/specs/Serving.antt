@@ -1,19 +1,14 @@
 -- The command `serve`: what is answered.
 use Rattle.std.specs.Prelude.{◌<◌, ℕ, List, length, Option}
-use Rattle.awari_build.specs.BuildFault.{fault_text as build_fault_text}
 use Rattle.awari_build.specs.declared.faults.BuildFault.TheVariants as build_fault
-use Rattle.awari_desk.specs.DeskFault.{fault_text as desk_fault_text}
 use Rattle.awari_desk.specs.Desks.{by_reader}
-use Rattle.awari_desk.specs.ServeFault.{fault_text as serve_fault_text}
 use Rattle.awari_desk.specs.Service.{IsInput, HasServed}
 use Rattle.awari_folder.specs.Contents.{IsStoredIn}
-use Rattle.awari_folder.specs.FolderFault.{fault_text as folder_fault_text}
-use Rattle.awari_phase.specs.PhaseFault.{fault_text as phase_fault_text}
 use Rattle.awari_phase.specs.declared.faults.PhaseFault.TheVariants as phase_fault
 use Rattle.awari_table.specs.Shelves.{IsShelf}
 use Rattle.awari_table.specs.declared.images.Image.{Image}
-use Rattle.awari_cli.specs.declared.serving.ServingFault.{ServingFault}
-use Rattle.awari_cli.specs.declared.serving.ServingFault.TheVariants.{Folder, Desk, Start, Build, Serve}
+use Rattle.awari_cli.specs.declared.faults.CommandFault.{CommandFault}
+use Rattle.awari_cli.specs.declared.faults.CommandFault.TheVariants.{Build}
 
 -- Where the input is known, and what the writer holds: what was written is the output for it, of a reader that knew these levels.
 abbrev pub IsServed : List Image → Option (List ℕ) → Option (List ℕ) → Option (List ℕ) → Type 0
@@ -28,13 +23,5 @@ abbrev pub HasLevelsTo : ℕ → Type 0
 HasLevelsTo top = (book : List Image) × IsShelf book × (top < length book)
 
 -- why a level is not built that nobody can ask for
-abbrev pub nobody_asks : ServingFault
+abbrev pub nobody_asks : CommandFault
 nobody_asks = Build (build_fault.Phase phase_fault.Stopped)
-
--- the fault inside it
-abbrev pub serving_fault_text : ServingFault → List ℕ
-serving_fault_text (Folder fault) = folder_fault_text fault
-serving_fault_text (Desk fault) = desk_fault_text fault
-serving_fault_text (Start fault) = phase_fault_text fault
-serving_fault_text (Build fault) = build_fault_text fault
-serving_fault_text (Serve fault) = serve_fault_text fault

@@ -1,20 +1,18 @@
 //! The command `build`: levels built one on another.
 
-ghost use Rattle.std.specs.Prelude.{◌≡◌, ◌≤◌, ◌<◌, ◌+◌, ◌-◌, ◌++◌, ◌∷◌, [], ℕ, List, length, Option, true, OnOk, OnErr, IfOk, IfSome, IsSome};
+ghost use Rattle.std.specs.Prelude.{◌≡◌, ◌≤◌, ◌<◌, ◌+◌, ◌-◌, ◌++◌, ◌∷◌, [], ℕ, List, length, Option, true, OnOk, OnErr, IfOk, IfSome};
 ghost use Rattle.std.specs.Arc.{arc_value};
-ghost use Rattle.std.specs.Io.KnownBytes.{Appends};
-ghost use Rattle.awari_build.specs.declared.faults.BuildFault.TheVariants as build_fault;
 ghost use Rattle.awari_table.specs.declared.images.Image.{Image};
 ghost use Rattle.awari_play.specs.Least.{HasLowestPlans, IsPlannedLowest};
-ghost use Rattle.awari_table.specs.Shelves.{Consistent, IsShelf};
+ghost use Rattle.awari_table.specs.Shelves.{Consistent};
 ghost use Rattle.awari_folder.specs.Contents.{AreNames, HoldsIn, Same};
 ghost use Rattle.awari_folder.specs.Migration.{KeepsFiles};
-ghost use Rattle.awari_answers.specs.LevelLines.{IsToldOf, level_lines};
-ghost use Rattle.awari_cli.specs.Building.{AddsFile, KeepsLevels, LeavesFiles, PrintsAllLevels, PrintsLevels, SameOutside, SavesLevel, SavesTop};
-ghost use Rattle.awari_cli.specs.declared.building.BuildingFault.TheVariants as building_fault;
+ghost use Rattle.awari_answers.specs.LevelLines.{IsToldOf};
+ghost use Rattle.awari_cli.specs.Building.{AddsFile, BuildsTo, KeepsLevels, LeavesFiles, PrintsAllLevels, PrintsLevels, SameOutside, SavesLevel, SavesTop};
 
 use crate::beside::{Beside, BuildProgress, Saving};
 use crate::estimates::{Bytes, Estimate};
+use crate::faults::CommandFault;
 use crate::ways::{Way, build_by, way_beside_save, way_of};
 use awari_answers::{LevelLine, Replies, line_of_level, print, refuse, status_of};
 use awari_build::{BuildFault, Pace};
@@ -23,8 +21,7 @@ use awari_heard::Progress;
 use awari_play::lowest_plans_stay;
 use awari_table::{HIGHEST_LEVEL, Level, Shelf};
 use rayon::join_mut;
-use std::alloc::{AllocFailed, Global};
-use std::fmt;
+use std::alloc::Global;
 use std::sync::{Arc, Wait};
 use std::thread::Threads;
 
@@ -57,53 +54,6 @@ fn tools_of<'a, T, P>(builder: &Builder<'a, T, P>) -> Tools<'a, T> {
         alloc: builder.alloc,
         way,
         fewer: way_beside_save(way),
-    }
-}
-
-/// Why a level is not built, or not saved. It is printed as the fault inside it.
-#[derive(Clone, Copy)]
-enum BuildingFault {
-    Build { fault: BuildFault },
-    Folder { fault: FolderFault },
-}
-
-impl From<BuildFault> for BuildingFault {
-    ghost from_gives = { λ fault e. e ≡ building_fault.Build fault };
-
-    fn from(fault: BuildFault) -> Self {
-        BuildingFault::Build { fault }
-    }
-}
-
-impl From<FolderFault> for BuildingFault {
-    ghost from_gives = { λ fault e. e ≡ building_fault.Folder fault };
-
-    fn from(fault: FolderFault) -> Self {
-        BuildingFault::Folder { fault }
-    }
-}
-
-impl<T: Drop> From<AllocFailed<T>> for BuildingFault {
-    ghost from_gives = { λ _ e. e ≡ building_fault.Build build_fault.Memory };
-
-    fn from(_error: AllocFailed<T>) -> Self {
-        BuildingFault::Build {
-            fault: BuildFault::Memory,
-        }
-    }
-}
-
-impl fmt::Display for BuildingFault {
-    ghost use Rattle.std.specs.Prelude.{Some};
-    ghost use Rattle.awari_cli.specs.Building.{building_fault_text};
-
-    ghost output = { λ fault. Some (building_fault_text fault) };
-
-    fn fmt<W: fmt::Write>(&self, f: &mut fmt::Formatter<W>) -> fmt::Result {
-        match *self {
-            BuildingFault::Build { fault } => write!(f, "{fault}"),
-            BuildingFault::Folder { fault } => write!(f, "{fault}"),
-        }
     }
 }
 
@@ -153,10 +103,7 @@ fn build_up<T: Threads + Wait + Sync, P: Progress, W: Replies>(
     writer: &mut W,
 ) -> u8
     ensures status { result ≤ 1 }
-    ensures shelf { result ≡ 0 → IsShelf shelf.new × (top < length shelf.new) }
-    ensures built { result ≡ 0 → (built : List Image) × (shelf.new ≡ shelf.old ++ built)
-        × Appends (W.contents writer.old) (W.contents writer.new) (level_lines built) }
-    ensures planned { result ≡ 0 → HasLowestPlans shelf.old → HasLowestPlans shelf.new }
+    ensures built { result ≡ 0 → BuildsTo top shelf.old shelf.new (W.contents writer.old) (W.contents writer.new) }
     ensures no_more { result ≡ 0 → length shelf.old ≤ top + 1 → length shelf.new ≤ top + 1 }
 {
     while shelf.levels() <= top {
@@ -182,10 +129,7 @@ pub(crate) fn build_up_in<T: Threads + Wait + Sync, P: BuildProgress + Send, F: 
     writer: &mut W,
 ) -> u8
     ensures status { result ≤ 1 }
-    ensures shelf { result ≡ 0 → IsShelf stored.new.shelf × (top < length stored.new.shelf) }
-    ensures built { result ≡ 0 → (built : List Image) × (stored.new.shelf ≡ stored.old.shelf ++ built)
-        × Appends (W.contents writer.old) (W.contents writer.new) (level_lines built) }
-    ensures planned { result ≡ 0 → HasLowestPlans stored.old.shelf → HasLowestPlans stored.new.shelf }
+    ensures built { result ≡ 0 → BuildsTo top stored.old.shelf stored.new.shelf (W.contents writer.old) (W.contents writer.new) }
     ensures holds { HoldsIn (F.state folder.old).stands stored.old.shelf stored.old.digest → result ≡ 0 → HoldsIn (F.state folder.new).stands stored.new.shelf stored.new.digest }
     ensures same { SameOutside (length stored.old.shelf) top (F.state folder.old).stands (F.state folder.new).stands }
     ensures kept { KeepsFiles (F.state folder.old).stands (F.state folder.new).stands }
@@ -208,11 +152,11 @@ pub(crate) fn build_up_in<T: Threads + Wait + Sync, P: BuildProgress + Send, F: 
 
 /// Writes the refusal of the level of this number, and gives the status 1. If memory ran out, it is told how
 /// much the level takes.
-fn refuse_level<W: Replies>(writer: &mut W, level: u8, fault: BuildingFault) -> u8
+fn refuse_level<W: Replies>(writer: &mut W, level: u8, fault: CommandFault) -> u8
     ensures { result ≡ 1 }
 {
     let status = refuse(writer, fault);
-    if let BuildingFault::Build {
+    if let CommandFault::Build {
         fault: BuildFault::Memory,
     } = fault
     {
@@ -228,7 +172,7 @@ fn refuse_level<W: Replies>(writer: &mut W, level: u8, fault: BuildingFault) -> 
 fn build_next<T: Threads + Wait + Sync, P: Progress>(
     builder: &mut Builder<'_, T, P>,
     shelf: &mut Shelf,
-) -> Result<LevelLine, BuildingFault>
+) -> Result<LevelLine, CommandFault>
     ensures built { IfOk result (λ told. (image : Image) × (shelf.new ≡ shelf.old ++ image ∷ []) × IsToldOf image told) }
     ensures planned { OnOk result (HasLowestPlans shelf.old → HasLowestPlans shelf.new) }
 {
@@ -280,7 +224,7 @@ fn save_and_build<T: Threads + Wait + Sync, P: BuildProgress + Send, F: Folder, 
 struct Saved {
     /// The digest that the level's file ends in.
     digest: [u8; 32],
-    built: Result<Arc<Level>, BuildingFault>,
+    built: Result<Arc<Level>, CommandFault>,
 }
 
 /// Saves the level on top of the shelf, and builds the next one above it. Of several threads one saves while the
@@ -318,7 +262,7 @@ fn built_beside<T: Threads + Wait + Sync, P: BuildProgress>(
     tools: &Tools<'_, T>,
     shelf: &Shelf,
     progress: &mut P,
-) -> Result<Arc<Level>, BuildingFault>
+) -> Result<Arc<Level>, CommandFault>
     ensures consistent { IfOk result (λ level. Consistent shelf.now (arc_value level)) }
     ensures planned { IfOk result (λ level. IsPlannedLowest shelf.now (arc_value level)) }
 {
@@ -374,7 +318,7 @@ fn save_or_refuse<T: Wait, F: Folder, W: Replies>(
         Err(fault) => {
             let mut save = saving.begin_to_print();
             save.refused = true;
-            refuse_level(writer, number, BuildingFault::Folder { fault });
+            refuse_level(writer, number, CommandFault::Folder { fault });
             None
         }
     }
@@ -410,11 +354,11 @@ fn built_level<T: Threads + Wait + Sync, P: Progress>(
     way: Way,
     shelf: &Shelf,
     progress: &mut P,
-) -> Result<Arc<Level>, BuildingFault>
+) -> Result<Arc<Level>, CommandFault>
     ensures consistent { IfOk result (λ level. Consistent shelf.now (arc_value level)) }
     ensures planned { IfOk result (λ level. IsPlannedLowest shelf.now (arc_value level)) }
 {
     let level = build_by(tools.rt, tools.alloc, shelf, way, progress)?;
-    let shared = Arc::new(tools.alloc, level)?;
+    let shared = Arc::new(tools.alloc, level).map_err(|_| BuildFault::Memory)?;
     Ok(shared)
 }

@@ -29,6 +29,7 @@ mod beside;
 mod building;
 mod disk;
 mod estimates;
+mod faults;
 mod hosts;
 mod lasting;
 mod laws;

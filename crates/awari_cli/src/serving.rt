@@ -3,113 +3,27 @@
 
 ghost use Rattle.std.specs.Prelude.{◌≡◌, ◌≤◌, ◌<◌, ◌+◌, ◌↔◌, ℕ, [], length, Ok, Err, IsOk, IfOk, OnOk};
 ghost use Rattle.awari_desk.specs.Desks.{book_of};
-ghost use Rattle.awari_desk.specs.declared.faults.DeskFault.TheVariants as desk_fault;
 ghost use Rattle.awari_folder.specs.Contents.{Same};
 ghost use Rattle.awari_table.specs.Shelves.{Consistent, IsShelf};
 ghost use Rattle.awari_cli.specs.Serving.{PrintsService, HasLevelsTo, IsServed, nobody_asks};
-ghost use Rattle.awari_cli.specs.declared.serving.ServingFault.{ServingFault as AServingFault};
-ghost use Rattle.awari_cli.specs.declared.serving.ServingFault.TheVariants as serving_fault;
+ghost use Rattle.awari_cli.specs.declared.faults.CommandFault.{CommandFault as ACommandFault};
 
+use crate::faults::CommandFault;
 use crate::lasting::{WhileServed, lasting_service};
 use crate::ways::{Way, build_by, way_of};
 use awari_answers::{Replies, Streams, refuse};
 use awari_build::{BuildFault, Pace};
 use awari_desk::{DeskFault, Publisher, Reader, ServeFault, desk, serve};
-use awari_folder::{Folder, FolderFault, Together, load};
+use awari_folder::{Folder, Together, load};
 use awari_phase::PhaseFault;
 use awari_queries::ServeQuery;
 use awari_table::{Counted, HIGHEST_LEVEL, Level, Shelf};
 use core::mem::replace_with;
 use rayon::current_num_threads;
-use std::alloc::{AllocError, AllocFailed, Global};
+use std::alloc::Global;
 use std::io::{Read, Write};
 use std::sync::{Arc, Wait};
-use std::thread::{Promise, Threads};
-use std::{fmt, thread};
-
-/// Why a service does not begin, or does not end as asked. It is printed as the fault inside it.
-#[derive(Clone, Copy)]
-enum ServingFault {
-    /// The folder is not loaded.
-    Folder { fault: FolderFault },
-    /// The levels are not published, or the reader is not told of them.
-    Desk { fault: DeskFault },
-    /// The thread that builds is not started.
-    Start { fault: PhaseFault },
-    /// A level is not built.
-    Build { fault: BuildFault },
-    /// The lines are not read, or the answers not written.
-    Serve { fault: ServeFault },
-}
-
-impl From<FolderFault> for ServingFault {
-    ghost from_gives = { λ fault e. e ≡ serving_fault.Folder fault };
-
-    fn from(fault: FolderFault) -> Self {
-        ServingFault::Folder { fault }
-    }
-}
-
-impl From<DeskFault> for ServingFault {
-    ghost from_gives = { λ fault e. e ≡ serving_fault.Desk fault };
-
-    fn from(fault: DeskFault) -> Self {
-        ServingFault::Desk { fault }
-    }
-}
-
-impl From<BuildFault> for ServingFault {
-    ghost from_gives = { λ fault e. e ≡ serving_fault.Build fault };
-
-    fn from(fault: BuildFault) -> Self {
-        ServingFault::Build { fault }
-    }
-}
-
-impl From<ServeFault> for ServingFault {
-    ghost from_gives = { λ fault e. e ≡ serving_fault.Serve fault };
-
-    fn from(fault: ServeFault) -> Self {
-        ServingFault::Serve { fault }
-    }
-}
-
-impl From<AllocError> for ServingFault {
-    ghost from_gives = { λ _ e. e ≡ serving_fault.Desk desk_fault.Memory };
-
-    fn from(_error: AllocError) -> Self {
-        ServingFault::Desk {
-            fault: DeskFault::Memory,
-        }
-    }
-}
-
-impl<T: Drop> From<AllocFailed<T>> for ServingFault {
-    ghost from_gives = { λ _ e. e ≡ serving_fault.Desk desk_fault.Memory };
-
-    fn from(_error: AllocFailed<T>) -> Self {
-        ServingFault::Desk {
-            fault: DeskFault::Memory,
-        }
-    }
-}
-
-impl fmt::Display for ServingFault {
-    ghost use Rattle.std.specs.Prelude.{Some};
-    ghost use Rattle.awari_cli.specs.Serving.{serving_fault_text};
-
-    ghost output = { λ fault. Some (serving_fault_text fault) };
-
-    fn fmt<W: fmt::Write>(&self, f: &mut fmt::Formatter<W>) -> fmt::Result {
-        match *self {
-            ServingFault::Folder { fault } => write!(f, "{fault}"),
-            ServingFault::Desk { fault } => write!(f, "{fault}"),
-            ServingFault::Start { fault } => write!(f, "{fault}"),
-            ServingFault::Build { fault } => write!(f, "{fault}"),
-            ServingFault::Serve { fault } => write!(f, "{fault}"),
-        }
-    }
-}
+use std::thread::{self, Promise, Threads};
 
 /// How the building beside a service has ended.
 #[derive(Clone, Copy)]
@@ -153,7 +67,7 @@ pub fn run_serve<
     match serve_beside(rt, alloc, folder, query, streams) {
         Ok(Grown::ToTop | Grown::Stopped) => 0,
         Err(
-            ServingFault::Serve {
+            CommandFault::Serve {
                 fault: ServeFault::Write,
             },
         ) => 1,
@@ -175,7 +89,7 @@ fn serve_beside<
     folder: &mut F,
     query: ServeQuery,
     streams: &mut Streams<R, W, E>,
-) -> Result<Grown, ServingFault>
+) -> Result<Grown, CommandFault>
     ensures same { Same (F.state folder.old).stands (F.state folder.new).stands }
     ensures served { OnOk result (PrintsService (F.state folder.old).stands (R.remaining streams.old.input) (W.contents streams.old.output) (W.contents streams.new.output)) }
     ensures grown { IfOk result (λ end. end ≡ Grown.ToTop → HasLevelsTo query.top) }
@@ -187,7 +101,7 @@ fn serve_beside<
     let top = query.top;
     let Ok(builder) = thread::spawn_with(rt, GrowsTo(top), move || grow(grower, publisher, top))
     else {
-        return Err(ServingFault::Start {
+        return Err(CommandFault::Start {
             fault: PhaseFault::NotStarted,
         });
     };
@@ -215,15 +129,15 @@ fn grower_for<T: Threads>(rt: T, alloc: Global, query: ServeQuery, wanted: While
 }
 
 /// How the building has ended, which is no refusal if nobody wanted the level.
-fn ended(grown: Result<(), ServingFault>) -> Result<Grown, ServingFault>
+fn ended(grown: Result<(), CommandFault>) -> Result<Grown, CommandFault>
     ensures to_top { (result ≡ Ok Grown.ToTop) ↔ IsOk grown }
     ensures stopped { (result ≡ Ok Grown.Stopped) ↔ (grown ≡ Err nobody_asks) }
-    ensures refused { (fault : AServingFault) → result ≡ Err fault → grown ≡ Err fault }
+    ensures refused { (fault : ACommandFault) → result ≡ Err fault → grown ≡ Err fault }
 {
     match grown {
         Ok(()) => Ok(Grown::ToTop),
         Err(
-            ServingFault::Build {
+            CommandFault::Build {
                 fault: BuildFault::Phase {
                     fault: PhaseFault::Stopped,
                 },
@@ -238,7 +152,7 @@ fn ended(grown: Result<(), ServingFault>) -> Result<Grown, ServingFault>
 #[derive(Drop)]
 struct GrowsTo(u8);
 
-impl<T: Wait + Drop> Promise<(Publisher<T>, Result<(), ServingFault>)> for GrowsTo {
+impl<T: Wait + Drop> Promise<(Publisher<T>, Result<(), CommandFault>)> for GrowsTo {
     ghost kept_by = { λ promise grown. OnOk grown.1 (IsShelf (book_of grown.0.pages) × (promise.0 < length (book_of grown.0.pages))) };
 }
 
@@ -247,7 +161,7 @@ fn published<T: Wait + Drop>(
     rt: T,
     alloc: Global,
     shelf: &Shelf,
-) -> Result<(Publisher<T>, Reader), ServingFault>
+) -> Result<(Publisher<T>, Reader), CommandFault>
     ensures known { IfOk result (λ made. made.1 ≡ shelf.now) }
     ensures shelf { OnOk result (IsShelf shelf.now) }
 {
@@ -264,7 +178,7 @@ fn published<T: Wait + Drop>(
 fn publish_each<T: Wait + Drop>(
     publisher: &mut Publisher<T>,
     shelf: &Shelf,
-) -> Result<(), ServingFault>
+) -> Result<(), CommandFault>
     requires { book_of publisher.old.pages ≡ [] }
     ensures book { OnOk result (book_of publisher.new.pages ≡ shelf.now) }
     ensures shelf { IsShelf shelf.now }
@@ -307,7 +221,7 @@ fn grow<T: Threads + Wait + Sync + Drop>(
     mut grower: Grower<T>,
     mut publisher: Publisher<T>,
     top: u8,
-) -> (Publisher<T>, Result<(), ServingFault>)
+) -> (Publisher<T>, Result<(), CommandFault>)
     ensures { OnOk result.1 (IsShelf (book_of result.0.pages) × (top < length (book_of result.0.pages))) }
 {
     'level: while publisher.pages.book().levels() <= top {
@@ -322,11 +236,11 @@ fn grow<T: Threads + Wait + Sync + Drop>(
 fn grow_by_one<T: Threads + Wait + Sync + Drop>(
     grower: &mut Grower<T>,
     publisher: &mut Publisher<T>,
-) -> Result<(), ServingFault>
+) -> Result<(), CommandFault>
     ensures { OnOk result (length (book_of publisher.new.pages) ≡ length (book_of publisher.old.pages) + 1) }
 {
     let level = next_level(grower, publisher.pages.book())?;
-    let level = Arc::new(grower.alloc, level)?;
+    let level = Arc::new(grower.alloc, level).map_err(|_| DeskFault::Memory)?;
     publisher.publish(level)?;
     Ok(())
 }

@@ -1,9 +1,10 @@
 -- Where the entries of a level are read, and what is said of a level that no one verified.
-use Rattle.std.specs.Prelude.{◌≡◌, ℕ, ◌<◌, List, length, min, Option, slice_index_or}
+use Rattle.std.specs.Prelude.{◌≡◌, ℕ, ◌+◌, ◌<◌, ◌≤◌, List, length, min, Option, slice_index_or}
 use Rattle.awari_folder.specs.Contents.{AreNames}
 use Rattle.awari_places.specs.Opening.{AreFramed}
 use Rattle.awari_places.specs.Places.{Says}
 use Rattle.awari_places.specs.declared.opening.Opened.{Opened}
+use Rattle.awari_rank.specs.Rank.{size_of}
 use Rattle.awari_table.specs.Images.{no_image}
 use Rattle.awari_table.specs.declared.TheConstants.{HIGHEST_LEVEL}
 use Rattle.awari_table.specs.Shelves.{IsShelf}
@@ -38,3 +39,9 @@ pub record IsSaidOf (level : ℕ) (stands : ℕ → Option (Option (List ℕ))) 
   pub framed : (names : ℕ → Option (List ℕ)) → AreNames stands names → AreFramed (min level HIGHEST_LEVEL) names opened
   pub known : level < opened.levels
   pub said : (images : List Image) → Says stands opened.levels images → P images
+
+-- of these levels this one is there, and has a board of this rank
+pub record IsThere (levels level rank : ℕ) : Type 0 where
+  pub known : level < levels
+  pub few : levels ≤ HIGHEST_LEVEL + 1
+  pub ranked : rank < size_of level

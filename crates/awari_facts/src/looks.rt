@@ -1,9 +1,9 @@
 //! What is known of a board by the boards that its moves leave, and by the board turned.
 
-ghost use Rattle.std.specs.Prelude.{◌≡◌, ◌<◌, ◌≤◌, ◌+◌, ◌-ℤ◌, List, IfOk, int_lt, length, neg_ℤ, pos, sum};
+ghost use Rattle.std.specs.Prelude.{◌≡◌, ◌<◌, ◌-ℤ◌, List, IfOk, int_lt, length, neg_ℤ, pos, sum};
 ghost use Rattle.awari_folder.specs.State.{Unchanged};
-ghost use Rattle.awari_table.specs.declared.TheConstants.{HIGHEST_LEVEL};
 ghost use Rattle.awari_table.specs.declared.images.Image.{Image};
+ghost use Rattle.awari_places.specs.Places.{IsLevelOf};
 ghost use Rattle.awari_facts.specs.Facts.{gained_by, gains, gains_in, greedier, greediest, lost_by, moves_gaining};
 ghost use Rattle.awari_facts.specs.Sources.{SaysBy, levels_of};
 
@@ -72,8 +72,7 @@ fn gained_by<F: Folder>(
     board: &PackedBoard,
     pit: u8,
 ) -> Result<Option<Gained>, FolderFault>
-    requires known { sum board.now < levels_of source }
-    requires few { levels_of source ≤ HIGHEST_LEVEL + 1 }
+    requires { IsLevelOf (levels_of source) (sum board.now) }
     ensures gained { (images : List Image) → SaysBy source.entry (F.state folder.old).stands images → IfOk result (λ g. g ≡ gained_by images board.now pit) }
     ensures same { Unchanged (F.state folder.old) (F.state folder.new) }
 {
@@ -94,8 +93,7 @@ pub fn gains_of<F: Folder>(
     folder: &mut F,
     board: &PackedBoard,
 ) -> Result<Gains, FolderFault>
-    requires known { sum board.now < levels_of source }
-    requires few { levels_of source ≤ HIGHEST_LEVEL + 1 }
+    requires { IsLevelOf (levels_of source) (sum board.now) }
     ensures gains { (images : List Image) → SaysBy source.entry (F.state folder.old).stands images → IfOk result (λ g. g ≡ gains_in images board.now) }
     ensures same { Unchanged (F.state folder.old) (F.state folder.new) }
 {

@@ -1,6 +1,6 @@
 //! Numbers of a board, by column.
 
-ghost use Rattle.std.specs.Prelude.{◌≡◌, ◌<◌, ◌≤◌, ◌+◌, ℕ, List, IfOk, IfSome, IsNone, length, sum};
+ghost use Rattle.std.specs.Prelude.{◌≡◌, ◌<◌, ◌≤◌, ℕ, List, IfOk, IfSome, IsNone, length, sum};
 ghost use Rattle.awari_board.specs.Rules.{IsBoard};
 ghost use Rattle.awari_folder.specs.State.{Unchanged};
 ghost use Rattle.awari_queries.specs.declared.columns.Column.TheVariants.{Keep};
@@ -8,7 +8,7 @@ ghost use Rattle.awari_rank.specs.Rank.{rank_of, size_of};
 ghost use Rattle.awari_table.specs.declared.TheConstants.{HIGHEST_LEVEL};
 ghost use Rattle.awari_table.specs.declared.images.Image.{Image};
 ghost use Rattle.awari_facts.specs.Numbers.{IsAt, IsNumber, number_in, or_less};
-ghost use Rattle.awari_facts.specs.Sources.{SaysBy, levels_of};
+ghost use Rattle.awari_facts.specs.Sources.{IsThere, SaysBy, levels_of};
 
 use crate::facts::{legal_moves, plan_captures};
 use crate::looks::{gains_of, gains_on, moves_gaining};
@@ -95,9 +95,7 @@ pub fn number_of<F: Folder>(
     column: Column,
     seen: &Seen,
 ) -> Result<i64, FolderFault>
-    requires level { seen.now.level < levels_of source }
-    requires few { levels_of source ≤ HIGHEST_LEVEL + 1 }
-    requires rank { seen.now.rank < size_of seen.now.level }
+    requires { IsThere (levels_of source) seen.now.level seen.now.rank }
     ensures number { (images : List Image) (board : List ℕ) → SaysBy source.entry (F.state folder.old).stands images → IsAt images seen.now.level seen.now.rank board seen.now.entry
         → IfOk result (λ n. n ≡ number_in images column board) }
     ensures least { IfOk result IsNumber }

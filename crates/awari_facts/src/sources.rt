@@ -1,12 +1,13 @@
 //! Where the entries of a level are read: verified levels, or files where they lie.
 
-ghost use Rattle.std.specs.Prelude.{◌≡◌, ◌<◌, ◌≤◌, ◌+◌, List, IfOk, length, sum};
+ghost use Rattle.std.specs.Prelude.{◌≡◌, ◌<◌, ◌≤◌, List, IfOk, length, sum};
 ghost use Rattle.awari_folder.specs.State.{Unchanged};
 ghost use Rattle.awari_places.specs.Runs.{IsEntryAt, IsRunOf};
 ghost use Rattle.awari_rank.specs.Rank.{size_of};
 ghost use Rattle.awari_table.specs.Images.{entry_of};
 ghost use Rattle.awari_table.specs.declared.TheConstants.{HIGHEST_LEVEL};
 ghost use Rattle.awari_table.specs.declared.images.Image.{Image};
+ghost use Rattle.awari_places.specs.Places.{IsLevelOf};
 ghost use Rattle.awari_facts.specs.Sources.{SaysBy, levels_of, limit_of};
 
 use awari_folder::{Folder, FolderFault};
@@ -72,8 +73,7 @@ pub fn entry_at<F: Folder>(
     folder: &mut F,
     board: &PackedBoard,
 ) -> Result<Entry, FolderFault>
-    requires known { sum board.now < levels_of source }
-    requires few { levels_of source ≤ HIGHEST_LEVEL + 1 }
+    requires { IsLevelOf (levels_of source) (sum board.now) }
     ensures entry { (images : List Image) → SaysBy source.entry (F.state folder.old).stands images → IfOk result (λ e. e ≡ entry_of images board.now) }
     ensures same { Unchanged (F.state folder.old) (F.state folder.new) }
 {

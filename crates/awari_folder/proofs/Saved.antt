@@ -1,6 +1,6 @@
 -- A shelf's files with one level more, and that files are those of one shelf.
 use Rattle.std.proofs.Common.{arith, ◌≡◌, ◌≢◌, ◌<◌, ◌≤◌, ◌+◌, ⊎_elim, true, false, eqb, if◌then◌else◌, List, ℕ, zero, suc, [], ◌∷◌, ◌++◌, length, Option, Some, None, Result, Ok, Err, ap, sym, refl, subst, ◌∙◌, length-append}
-use Rattle.std.specs.Prelude.{IfSome, IsSomeAnd, OnOk}
+use Rattle.std.specs.Prelude.{IfOk, IfSome, IsSomeAnd, OnOk}
 use Rattle.awari_folder.specs.declared.faults.FolderFault.{FolderFault}
 use Rattle.std.proofs.lemmas.Bool.{eqb-true, false_from_ne_true, cases_lt}
 use Rattle.std.proofs.lemmas.Bool.Decides.{eqb_tells}
@@ -12,7 +12,7 @@ use Rattle.awari_file.specs.FileText.{HasFile, body_text, file_text, found_of}
 use Rattle.awari_file.proofs.WholeSpell.{told_apart}
 use Rattle.awari_folder.specs.NextFile.{IsNextFile}
 use Rattle.awari_folder.specs.Contents.{Same, SameBut, Becomes, AreNames, HoldLevels, HoldsIn, IsStored}
-use Rattle.awari_folder.specs.State.{Saves, State, Unchanged}
+use Rattle.awari_folder.specs.State.{IsOwnDigest, Saves, State, Unchanged}
 
 same_number : (n : ℕ) → eqb n n ≡ true
 same_number n = grind arith
@@ -101,13 +101,13 @@ saves_by old new image below own others has = record {
 }
 
 -- The same, in place of what stood there before.
-pub saves_over : (old mid new : State) (image : Image) (below : List ℕ) (E : Type 0) (result : Result (List ℕ) FolderFault) → Same old.stands mid.stands → IfSome (old.stands image.level) (λ _. E)
-    → OnOk result (E → Becomes (mid.stands image.level) (new.stands image.level) (Some (file_text 2 image below))) → SameBut image.level mid.stands new.stands → OnOk result (HasFile 2 image below)
+pub saves_over : (old mid new : State) (image : Image) (below : List ℕ) (C E : Type 0) (result : Result (List ℕ) FolderFault) → Same old.stands mid.stands → IfSome (old.stands image.level) (λ _. E)
+    → OnOk result (C × (E → Becomes (mid.stands image.level) (new.stands image.level) (Some (file_text 2 image below)))) → SameBut image.level mid.stands new.stands → IfOk result (IsOwnDigest image below)
     → OnOk result (Saves image below old new)
-saves_over old mid new image below E (Err fault) same known becomes others has = tt
-saves_over old mid new image below E (Ok digest) same known becomes others has =
-    saves_by old new image below (becomes_then (old.stands image.level) (mid.stands image.level) (new.stands image.level) E (file_text 2 image below) (same image.level) known becomes)
-    (λ n other. others n other ∙ same n) has
+saves_over old mid new image below C E (Err fault) same known named others own = tt
+saves_over old mid new image below C E (Ok digest) same known named others own =
+    saves_by old new image below (becomes_then (old.stands image.level) (mid.stands image.level) (new.stands image.level) E (file_text 2 image below) (same image.level) known named.1)
+    (λ n other. others n other ∙ same n) own.0
 
 -- The same of one that was saved after its folder was read.
 pub saves_after : (old mid new : State) (image : Image) (below : List ℕ) (result : Result (List ℕ) FolderFault) → Unchanged old mid → OnOk result (Saves image below mid new) → OnOk result (Saves image below old new)

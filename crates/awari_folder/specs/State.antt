@@ -1,12 +1,12 @@
 -- What is known of a folder, and how little its calls change of it.
-use Rattle.std.specs.Prelude.{◌≡◌, ◌⊎◌, ℕ, List, [], ◌∷◌, ◌++◌, Option, None, Some, IfSome, Result}
+use Rattle.std.specs.Prelude.{◌≡◌, ◌⊎◌, ℕ, List, [], ◌∷◌, ◌++◌, Option, None, Some, IfOk, IfSome, OnErr, OnOk, Result}
 use Rattle.sha2.specs.Sha256.{sha256}
 use Rattle.awari_streams.specs.Counted.{Grew}
 use Rattle.awari_table.specs.Shelves.{Consistent}
 use Rattle.awari_table.specs.declared.images.Image.{Image}
-use Rattle.awari_file.specs.FileText.{body_text, file_text}
+use Rattle.awari_file.specs.FileText.{HasFile, body_text, file_text}
 use Rattle.awari_folder.specs.declared.faults.FolderFault.{FolderFault}
-use Rattle.awari_folder.specs.Contents.{Same, SameBut, Stays, StaysBut, Becomes, LeavesNoMore, LeavesToo, LeavesStill, OpenIfRefused, Refusals, HoldsIn}
+use Rattle.awari_folder.specs.Contents.{Same, SameBut, Stays, StaysBut, Becomes, LeavesNoMore, LeavesToo, LeavesStill, OpenIfRefused, Refusals, HoldsIn, TellsRefusal}
 
 -- What has the name of a level's file, if that is known: a file of these bytes, or none. What a crash at this moment may leave
 -- under that name. Whether nothing of a draft of this level lies there. Which calls were refused so far, not counting those to
@@ -64,6 +64,19 @@ pub record Leaves (level : ℕ) (P : Option (List ℕ) → Option (List ℕ) →
   pub still : LeavesStill old.may_leave new.may_leave
   pub clear : old.is_clear level → new.is_clear level ⊎ Grew old.stuck new.stuck
   pub others_clear : StaysBut level old.is_clear new.is_clear
+
+-- the level has a file over the one that ends in `below`, and it ends in this digest
+abbrev pub IsOwnDigest : Image → List ℕ → List ℕ → Type 0
+IsOwnDigest image below digest = HasFile 2 image below × (digest ≡ sha256 (body_text 2 image below))
+
+-- What a save does. It gives the digest of the level's file, which has the name; or it changes no name. It is 82 if the folder
+-- refused a call, 84 if it lacked memory for one, and neither otherwise.
+pub record Outcome (image : Image) (below : List ℕ) (P : Option (List ℕ) → Option (List ℕ) → Type 0) (result : Result (List ℕ) FolderFault) (old new : State) : Type 0 where
+  pub digest : IfOk result (IsOwnDigest image below)
+  pub saved : OnOk result (Saves image below old new)
+  pub err : OnErr result (Same old.stands new.stands)
+  pub leaves : Leaves image.level P old new
+  pub refused : TellsRefusal result old.refusals new.refusals
 
 -- in place of whatever has the name: the level's file, whole
 abbrev pub IsOwnFile : Image → List ℕ → Option (List ℕ) → Option (List ℕ) → Type 0

@@ -1,14 +1,12 @@
 //! A level as a file in a folder, in place of none.
 
-ghost use Rattle.std.specs.Prelude.{◌≡◌, Some, IfOk, IfErr, IfSome, OnOk, OnErr};
-ghost use Rattle.sha2.specs.Sha256.{sha256};
+ghost use Rattle.std.specs.Prelude.{◌≡◌, Some, IfOk, IfErr, IfSome, OnOk};
 ghost use Rattle.awari_streams.specs.Counted.{faults_of, inner_of};
-ghost use Rattle.awari_file.specs.FileText.{HasFile, body_text, file_text};
+ghost use Rattle.awari_file.specs.FileText.{file_text};
 ghost use Rattle.awari_folder.specs.FolderFault.{Names};
 ghost use Rattle.awari_folder.specs.Keeping.{IsComparedFault, IsFreeFor, IsKeepFault};
 ghost use Rattle.awari_folder.specs.Migration.{KeepsFiles};
-ghost use Rattle.awari_folder.specs.Contents.{Same, TellsRefusal};
-ghost use Rattle.awari_folder.specs.State.{IsOwnIfFree, Leaves, Saves};
+ghost use Rattle.awari_folder.specs.State.{IsOwnDigest, IsOwnIfFree, Outcome};
 
 use crate::calls::{Folder, Refusal};
 use crate::faults::FolderFault;
@@ -28,20 +26,14 @@ pub fn save_or_keep<F: Folder>(
     level: &Level,
     below: [u8; 32],
 ) -> Result<[u8; 32], FolderFault>
-    ensures digest { IfOk result (λ digest. digest ≡ sha256 (body_text 2 level.now below)) }
+    // A crash at any moment leaves the level's name what it might have left before, or the level's file, whole, if it had none.
+    ensures outcome { Outcome level.now below (IsOwnIfFree level.now below) result (F.state folder.old) (F.state folder.new) }
     ensures named { IfErr result (Names level.now.level) }
     // It is refused as 85 only if another file has the name, and saved only if none has.
     ensures fault { IfSome ((F.state folder.old).stands level.now.level) (λ name. IfErr result (IsKeepFault level.now.level (file_text 2 level.now below) name)) }
     ensures free { OnOk result (IfSome ((F.state folder.old).stands level.now.level) (IsFreeFor (file_text 2 level.now below))) }
-    // Each file stays that was there; and a refusal changes no name.
-    ensures saved { OnOk result (Saves level.now below (F.state folder.old) (F.state folder.new)) }
+    // Each file stays that was there.
     ensures kept { KeepsFiles (F.state folder.old).stands (F.state folder.new).stands }
-    ensures err { OnErr result (Same (F.state folder.old).stands (F.state folder.new).stands) }
-    // A crash at any moment leaves the level's name what it might have left before, or the level's file, whole, if it had none.
-    ensures leaves { Leaves level.now.level (IsOwnIfFree level.now below) (F.state folder.old) (F.state folder.new) }
-    // It is 82 if the folder refused to open, to make or to name a file, 84 if it lacked memory for that,
-    // and neither otherwise.
-    ensures refused { TellsRefusal result (F.state folder.old).refusals (F.state folder.new).refusals }
 {
     let number = level.number();
     match folder.open(number) {
@@ -59,8 +51,7 @@ fn digest_of_own<R: Read>(
     below: [u8; 32],
     reader: &mut Counted<R>,
 ) -> Result<[u8; 32], FolderFault>
-    ensures digest { IfOk result (λ digest. digest ≡ sha256 (body_text 2 level.now below)) }
-    ensures has { OnOk result (HasFile 2 level.now below) }
+    ensures digest { IfOk result (IsOwnDigest level.now below) }
     ensures own { IfSome (R.remaining (inner_of reader.old)) (λ bytes. OnOk result (bytes ≡ file_text 2 level.now below)) }
     ensures fault { IfSome (R.remaining (inner_of reader.old)) (λ bytes. IfErr result (IsKeepFault level.now.level (file_text 2 level.now below) (Some bytes))) }
     ensures named { IfErr result (Names level.now.level) }

@@ -6,12 +6,10 @@ ghost use Rattle.awari_table.specs.declared.images.Image.{Image};
 ghost use Rattle.awari_streams.specs.Counted.{faults_of, inner_of};
 ghost use Rattle.awari_table.specs.Shelves.{Consistent};
 ghost use Rattle.awari_theory.specs.Older.{ConsistentOld};
-ghost use Rattle.awari_file.specs.FileText.{body_text};
 ghost use Rattle.awari_folder.specs.FolderFault.{Names, NamesLevel};
-ghost use Rattle.awari_folder.specs.Contents.{Same, LeavesStill, IsOfFile, OpenIfEither, AreNames, TellsRefusal};
+ghost use Rattle.awari_folder.specs.Contents.{LeavesStill, IsOfFile, OpenIfEither, AreNames};
 ghost use Rattle.awari_folder.specs.Verifying.{TellsReader};
-ghost use Rattle.awari_folder.specs.State.{IsOwnIfFree, Leaves, OnlyReads, Saves, Unchanged};
-ghost use Rattle.sha2.specs.Sha256.{sha256};
+ghost use Rattle.awari_folder.specs.State.{IsOwnIfFree, OnlyReads, Outcome, Unchanged};
 ghost use Rattle.awari_folder.specs.Migration.{IsDueIn, IsMigratedImage, IsMigratedFile, IsNextMigrated, IsMigrationFault, IsMigrated, IsFirstMigrationFault, IsStoreFault, IsFoundIn, IsMigratedOf, LeavesWhole, KeepsFiles};
 
 use crate::calls::{Folder, Refusal};
@@ -222,15 +220,11 @@ fn migrated_over(
 
 /// Saves a level into a folder that has no file of it yet.
 fn store<G: Folder>(to: &mut G, level: &Level, below: [u8; 32]) -> Result<[u8; 32], FolderFault>
-    ensures digest { IfOk result (λ digest. digest ≡ sha256 (body_text 2 level.now below)) }
+    ensures outcome { Outcome level.now below (IsOwnIfFree level.now below) result (G.state to.old) (G.state to.new) }
     ensures free { OnOk result (IfSome ((G.state to.old).stands level.now.level) (λ other. other ≡ None)) }
     ensures fault { IfSome ((G.state to.old).stands level.now.level) (λ other. IfErr result (IsStoreFault level.now.level other)) }
     ensures named { IfErr result (Names level.now.level) }
-    ensures saved { OnOk result (Saves level.now below (G.state to.old) (G.state to.new)) }
     ensures kept { KeepsFiles (G.state to.old).stands (G.state to.new).stands }
-    ensures err { OnErr result (Same (G.state to.old).stands (G.state to.new).stands) }
-    ensures leaves { Leaves level.now.level (IsOwnIfFree level.now below) (G.state to.old) (G.state to.new) }
-    ensures refused { TellsRefusal result (G.state to.old).refusals (G.state to.new).refusals }
 {
     let number = level.number();
     match to.open(number) {

@@ -1,11 +1,10 @@
 //! A level as a file in a folder.
 
 ghost use Rattle.std.specs.Prelude.{◌≡◌, [], Some, IfOk, IfErr, OnOk, OnErr};
-ghost use Rattle.sha2.specs.Sha256.{sha256};
-ghost use Rattle.awari_file.specs.FileText.{HasFile, body_text, file_text};
+ghost use Rattle.awari_file.specs.FileText.{file_text};
 ghost use Rattle.awari_folder.specs.FolderFault.{IsSaveFault};
 ghost use Rattle.awari_folder.specs.Contents.{Same, Becomes, IsWhole, TellsRefusal};
-ghost use Rattle.awari_folder.specs.State.{IsOwnFile, Leaves, MayName, Saves};
+ghost use Rattle.awari_folder.specs.State.{IsOwnDigest, IsOwnFile, MayName, Outcome};
 
 use crate::calls::{Draft, Folder, Refusal};
 use crate::faults::FolderFault;
@@ -26,18 +25,12 @@ pub fn save<F: Folder>(
     level: &Level,
     below: [u8; 32],
 ) -> Result<[u8; 32], FolderFault>
-    ensures digest { IfOk result (λ digest. digest ≡ sha256 (body_text 2 level.now below)) }
+    // A crash at any moment leaves the level's name what it might have left before, or the level's file, whole.
+    ensures outcome { Outcome level.now below (IsOwnFile level.now below) result (F.state folder.old) (F.state folder.new) }
     // It is 82, or 81 with 70, or 84.
     ensures told { IfErr result (IsSaveFault level.now.level) }
-    ensures saved { OnOk result (Saves level.now below (F.state folder.old) (F.state folder.new)) }
-    // No draft is left; and a refusal changes no name.
+    // No draft is left.
     ensures ok { OnOk result ((F.state folder.new).is_clear level.now.level) }
-    ensures err { OnErr result (Same (F.state folder.old).stands (F.state folder.new).stands) }
-    // A crash at any moment leaves the level's name what it might have left before, or the level's file, whole.
-    ensures leaves { Leaves level.now.level (IsOwnFile level.now below) (F.state folder.old) (F.state folder.new) }
-    // It is 82 if the folder refused to make the file or to give it its name, 84 if it lacked memory for
-    // that, and neither otherwise.
-    ensures refused { TellsRefusal result (F.state folder.old).refusals (F.state folder.new).refusals }
 {
     let number = level.number();
     let new = match folder.create(number) {
@@ -61,14 +54,13 @@ fn put_in_place<F: Folder>(
     below: [u8; 32],
     new: F::New,
 ) -> Result<[u8; 32], FolderFault>
-    ensures digest { IfOk result (λ digest. digest ≡ sha256 (body_text 2 level.now below)) }
-    ensures has { OnOk result (HasFile 2 level.now below) }
+    ensures digest { IfOk result (IsOwnDigest level.now below) }
     ensures told { IfErr result (IsSaveFault level.now.level) }
-    ensures named { OnOk result (F.New.contents new ≡ Some [] → Becomes ((F.state folder.old).stands level.now.level) ((F.state folder.new).stands level.now.level) (Some (file_text 2 level.now below))) }
-    ensures ok { OnOk result ((F.state folder.new).is_clear level.now.level) }
+    ensures named { OnOk result ((F.state folder.new).is_clear level.now.level
+        × (F.New.contents new ≡ Some [] → Becomes ((F.state folder.old).stands level.now.level) ((F.state folder.new).stands level.now.level) (Some (file_text 2 level.now below)))) }
     ensures err { OnErr result (Same (F.state folder.old).stands (F.state folder.new).stands) }
-    ensures leaves { MayName level.now.level (λ left. F.New.contents new ≡ Some [] → left ≡ Some (file_text 2 level.now below)) (F.state folder.old) (F.state folder.new) }
-    ensures stuck { (F.state folder.new).stuck ≡ (F.state folder.old).stuck }
+    ensures leaves { MayName level.now.level (λ left. F.New.contents new ≡ Some [] → left ≡ Some (file_text 2 level.now below)) (F.state folder.old) (F.state folder.new)
+        × ((F.state folder.new).stuck ≡ (F.state folder.old).stuck) }
     ensures refused { TellsRefusal result (F.state folder.old).refusals (F.state folder.new).refusals }
 {
     let number = level.number();
@@ -103,8 +95,7 @@ fn write_whole<D: Draft + Drop>(
     below: [u8; 32],
     new: D,
 ) -> Result<Written<D>, FileFault>
-    ensures digest { IfOk result (λ done. done.digest ≡ sha256 (body_text 2 level.now below)) }
-    ensures has { OnOk result (HasFile 2 level.now below) }
+    ensures digest { IfOk result (λ done. IsOwnDigest level.now below done.digest) }
     ensures whole { IfOk result (λ done. D.contents new ≡ Some [] → IsWhole (D.contents done.new) (D.kept done.new) (file_text 2 level.now below)) }
     ensures fault { IfErr result (λ fault. fault ≡ FileFault.Write) }
 {

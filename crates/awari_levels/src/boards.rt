@@ -1,7 +1,8 @@
 //! The commands `boards` and `text --boards`: the boards of a level with what is known of them.
 
 ghost use Rattle.std.specs.Io.KnownBytes.{Appends};
-ghost use Rattle.std.specs.Prelude.{◌≡◌, ◌≤◌, ◌<◌, ◌+◌, true, List, IfErr, IfOk, Ok};
+ghost use Rattle.std.specs.Prelude.{◌≡◌, ◌≤◌, ◌<◌, true, List, IfErr, IfOk, Ok};
+ghost use Rattle.awari_places.specs.Places.{IsLevelOf};
 ghost use Rattle.awari_facts.specs.Sources.{SaysBy, levels_of};
 ghost use Rattle.awari_folder.specs.Contents.{Same};
 ghost use Rattle.awari_folder.specs.State.{Unchanged};
@@ -84,8 +85,7 @@ fn print_wanted<R: Threads + Sync, F: Folder, W: Write>(
     asked: Asked<'_>,
     writer: &mut W,
 ) -> Result<bool, FolderFault>
-    requires level { asked.level < levels_of asked.source }
-    requires few { levels_of asked.source ≤ HIGHEST_LEVEL + 1 }
+    requires level { IsLevelOf (levels_of asked.source) asked.level }
     requires every { 0 < asked.wanted.now.every }
     ensures printed { (images : List Image) → SaysBy asked.entry.source (F.state folder.old).stands images → result ≡ Ok true
         → AppendsWanted images asked.entry.level asked.entry.wanted.now (W.contents writer.old) (W.contents writer.new) }
@@ -106,8 +106,7 @@ fn run_asked<R: Threads + Sync, F: Folder, W: Replies>(
     asked: Asked<'_>,
     writer: &mut W,
 ) -> u8
-    requires level { asked.level < levels_of asked.source }
-    requires few { levels_of asked.source ≤ HIGHEST_LEVEL + 1 }
+    requires level { IsLevelOf (levels_of asked.source) asked.level }
     requires every { 0 < asked.wanted.now.every }
     ensures status { result ≤ 1 }
     ensures printed { (images : List Image) → SaysBy asked.entry.source (F.state folder.old).stands images → result ≡ 0

@@ -88,14 +88,8 @@ fn numbers_of<F: Folder>(
         → IfOk result (λ numbers. IsSomeAnd (slice_get images level) (λ image. AreNumbersOf image numbers)) }
     ensures same { Unchanged (F.state folder.old) (F.state folder.new) }
 {
-    let limit = match read_limit(source, folder, level) {
-        Ok(limit) => limit,
-        Err(fault) => return Err(fault),
-    };
-    let tally = match tally_level(alloc, source, folder, level, limit) {
-        Ok(tally) => tally,
-        Err(fault) => return Err(fault),
-    };
+    let limit = read_limit(source, folder, level)?;
+    let tally = tally_level(alloc, source, folder, level, limit)?;
     Ok(numbers_from(level, limit, tally))
 }
 
@@ -149,11 +143,8 @@ fn print_levels<F: Folder, W: Write>(
     ensures same { Unchanged (F.state folder.old) (F.state folder.new) }
 {
     for number in 0..count_levels(source) {
-        let told = match numbers_of(alloc, source, folder, number) {
-            Ok(numbers) => numbers.told,
-            Err(fault) => return Err(fault),
-        };
-        if !print_level(told, json, writer) {
+        let numbers = numbers_of(alloc, source, folder, number)?;
+        if !print_level(numbers.told, json, writer) {
             return Ok(false);
         }
     }

@@ -1,14 +1,14 @@
 //! The boards of a level that are wanted, counted or printed.
 
-ghost use Rattle.std.specs.Prelude.{◌≡◌, ◌<◌, ◌≤◌, ◌+◌, ℕ, true, if◌then◌else◌, max, List, length, All, IfOk, None, Ok, Some};
+ghost use Rattle.std.specs.Prelude.{◌≡◌, ◌<◌, ℕ, true, if◌then◌else◌, max, List, length, All, IfOk, None, Ok, Some};
+ghost use Rattle.awari_places.specs.Places.{IsLevelOf};
 ghost use Rattle.awari_facts.specs.Facts.{keeping_moves};
 ghost use Rattle.awari_facts.specs.Numbers.{IsAt};
-ghost use Rattle.awari_facts.specs.Sources.{SaysBy, levels_of};
+ghost use Rattle.awari_facts.specs.Sources.{IsThere, SaysBy, levels_of};
 ghost use Rattle.awari_folder.specs.State.{Unchanged};
 ghost use Rattle.awari_queries.specs.Draws.{taken};
 ghost use Rattle.awari_queries.specs.declared.holding.Held.{Held as AHeld};
 ghost use Rattle.awari_rank.specs.Rank.{size_of};
-ghost use Rattle.awari_table.specs.declared.TheConstants.{HIGHEST_LEVEL};
 ghost use Rattle.awari_table.specs.declared.images.Image.{Image};
 ghost use Rattle.awari_levels.specs.Listing.{AppendsLines, due_boards, farthest_of, numbers_of, taken_boards, wanted_boards};
 ghost use Rattle.awari_levels.specs.Walks.{AreHeld, IsChoice};
@@ -45,8 +45,7 @@ fn find_farthest<R: Threads + Sync, F: Folder>(
     folder: &mut F,
     asked: Asked<'_>,
 ) -> Result<u32, FolderFault>
-    requires level { asked.level < levels_of asked.source }
-    requires few { levels_of asked.source ≤ HIGHEST_LEVEL + 1 }
+    requires { IsLevelOf (levels_of asked.source) asked.level }
     ensures farthest { (images : List Image) → SaysBy asked.entry.source (F.state folder.old).stands images → IfOk result (λ found. found ≡ farthest_of asked.entry.wanted.now images asked.entry.level) }
     ensures same { Unchanged (F.state folder.old) (F.state folder.new) }
 {
@@ -74,8 +73,7 @@ fn count_taken<R: Threads + Sync, F: Folder>(
     folder: &mut F,
     choice: Choice<'_>,
 ) -> Result<u32, FolderFault>
-    requires level { choice.asked.level < levels_of choice.asked.source }
-    requires few { levels_of choice.asked.source ≤ HIGHEST_LEVEL + 1 }
+    requires level { IsLevelOf (levels_of choice.asked.source) choice.asked.level }
     requires every { 0 < choice.asked.wanted.now.every }
     ensures counted { (images : List Image) → SaysBy choice.entry.asked.source (F.state folder.old).stands images → choice.entry.farthest ≡ farthest_of choice.entry.asked.wanted.now images choice.entry.asked.level
         → IfOk result (λ n. n ≡ length (taken choice.entry.sample (due_boards choice.entry.asked.wanted.now images choice.entry.asked.level))) }
@@ -98,8 +96,7 @@ fn choose<'a, R: Threads + Sync, F: Folder>(
     folder: &mut F,
     asked: Asked<'a>,
 ) -> Result<Choice<'a>, FolderFault>
-    requires level { asked.level < levels_of asked.source }
-    requires few { levels_of asked.source ≤ HIGHEST_LEVEL + 1 }
+    requires level { IsLevelOf (levels_of asked.source) asked.level }
     requires every { 0 < asked.wanted.now.every }
     ensures chosen { (images : List Image) → SaysBy asked.entry.source (F.state folder.old).stands images → IfOk result (IsChoice asked.entry.wanted.now images asked.entry.level) }
     ensures asked { IfOk result (λ choice. choice.asked ≡ asked.entry) }
@@ -127,9 +124,7 @@ fn keeping<F: Folder>(
     asked: Asked<'_>,
     seen: &Seen,
 ) -> Result<Option<u8>, FolderFault>
-    requires level { seen.now.level < levels_of asked.source }
-    requires few { levels_of asked.source ≤ HIGHEST_LEVEL + 1 }
-    requires rank { seen.now.rank < size_of seen.now.level }
+    requires { IsThere (levels_of asked.source) seen.now.level seen.now.rank }
     ensures keeping { (images : List Image) → SaysBy asked.entry.source (F.state folder.old).stands images → (board : List ℕ) → IsAt images seen.now.level seen.now.rank board seen.now.entry
         → IfOk result (λ keep. keep ≡ (if asked.entry.wanted.now.with_keep then Some (keeping_moves images board) else None)) }
     ensures same { Unchanged (F.state folder.old) (F.state folder.new) }
@@ -147,9 +142,7 @@ fn numbers_of<F: Folder>(
     asked: Asked<'_>,
     seen: &Seen,
 ) -> Result<LineNumbers, FolderFault>
-    requires level { seen.now.level < levels_of asked.source }
-    requires few { levels_of asked.source ≤ HIGHEST_LEVEL + 1 }
-    requires rank { seen.now.rank < size_of seen.now.level }
+    requires { IsThere (levels_of asked.source) seen.now.level seen.now.rank }
     ensures numbers { (images : List Image) → SaysBy asked.entry.source (F.state folder.old).stands images → (board : List ℕ) → IsAt images seen.now.level seen.now.rank board seen.now.entry
         → IfOk result (λ n. n ≡ numbers_of asked.entry.wanted.now images board) }
     ensures same { Unchanged (F.state folder.old) (F.state folder.new) }
@@ -176,8 +169,7 @@ fn print_taken<R: Threads + Sync, F: Folder, W: Write>(
     choice: Choice<'_>,
     writer: &mut W,
 ) -> Result<bool, FolderFault>
-    requires level { choice.asked.level < levels_of choice.asked.source }
-    requires few { levels_of choice.asked.source ≤ HIGHEST_LEVEL + 1 }
+    requires level { IsLevelOf (levels_of choice.asked.source) choice.asked.level }
     requires every { 0 < choice.asked.wanted.now.every }
     ensures printed { (images : List Image) → SaysBy choice.entry.asked.source (F.state folder.old).stands images → IsChoice choice.entry.asked.wanted.now images choice.entry.asked.level choice.entry → result ≡ Ok true
         → AppendsLines choice.entry.asked.wanted.now images (taken_boards choice.entry.asked.wanted.now images choice.entry.asked.level) (W.contents writer.old) (W.contents writer.new) }
@@ -218,8 +210,7 @@ fn hold_taken<R: Threads + Sync, F: Folder>(
     choice: Choice<'_>,
     order: Order,
 ) -> Result<Vec<Held>, FolderFault>
-    requires level { choice.asked.level < levels_of choice.asked.source }
-    requires few { levels_of choice.asked.source ≤ HIGHEST_LEVEL + 1 }
+    requires level { IsLevelOf (levels_of choice.asked.source) choice.asked.level }
     requires every { 0 < choice.asked.wanted.now.every }
     ensures held { (images : List Image) → SaysBy choice.entry.asked.source (F.state folder.old).stands images → IsChoice choice.entry.asked.wanted.now images choice.entry.asked.level choice.entry → Some order ≡ choice.entry.asked.wanted.now.order
         → IfOk result (λ held. AreHeld choice.entry.asked.wanted.now images choice.entry.asked.level (wanted_boards choice.entry.asked.wanted.now images choice.entry.asked.level) held.items) }
@@ -252,8 +243,7 @@ fn print_held<F: Folder, W: Write>(
     held: &[Held],
     writer: &mut W,
 ) -> Result<bool, FolderFault>
-    requires level { asked.level < levels_of asked.source }
-    requires few { levels_of asked.source ≤ HIGHEST_LEVEL + 1 }
+    requires level { IsLevelOf (levels_of asked.source) asked.level }
     requires held { All (λ (h : AHeld). h.rank < size_of asked.level) held.now }
     ensures printed { (images : List Image) → SaysBy asked.entry.source (F.state folder.old).stands images → (boards : List (List ℕ)) → AreHeld asked.entry.wanted.now images asked.entry.level boards held.now → result ≡ Ok true
         → AppendsLines asked.entry.wanted.now images boards (W.contents writer.old) (W.contents writer.new) }
@@ -282,8 +272,7 @@ pub(crate) fn print_boards<R: Threads + Sync, F: Folder, W: Write>(
     asked: Asked<'_>,
     writer: &mut W,
 ) -> Result<bool, FolderFault>
-    requires level { asked.level < levels_of asked.source }
-    requires few { levels_of asked.source ≤ HIGHEST_LEVEL + 1 }
+    requires level { IsLevelOf (levels_of asked.source) asked.level }
     requires every { 0 < asked.wanted.now.every }
     ensures printed { (images : List Image) → SaysBy asked.entry.source (F.state folder.old).stands images → result ≡ Ok true
         → AppendsLines asked.entry.wanted.now images (wanted_boards asked.entry.wanted.now images asked.entry.level) (W.contents writer.old) (W.contents writer.new) }
@@ -306,8 +295,7 @@ pub(crate) fn count_boards<R: Threads + Sync, F: Folder>(
     folder: &mut F,
     asked: Asked<'_>,
 ) -> Result<u32, FolderFault>
-    requires level { asked.level < levels_of asked.source }
-    requires few { levels_of asked.source ≤ HIGHEST_LEVEL + 1 }
+    requires level { IsLevelOf (levels_of asked.source) asked.level }
     requires every { 0 < asked.wanted.now.every }
     ensures counted { (images : List Image) → SaysBy asked.entry.source (F.state folder.old).stands images → IfOk result (λ n. n ≡ length (wanted_boards asked.entry.wanted.now images asked.entry.level)) }
     ensures same { Unchanged (F.state folder.old) (F.state folder.new) }

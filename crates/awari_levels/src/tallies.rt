@@ -124,10 +124,7 @@ pub(crate) fn tally_level<F: Folder>(
     };
     let mut run = Run::new();
     for rank in 0..size(level) {
-        let entry = match read_entry(source, folder, &mut run, level, rank) {
-            Ok(entry) => entry,
-            Err(fault) => return Err(fault),
-        };
+        let entry = read_entry(source, folder, &mut run, level, rank)?;
         if entry.dist > limit {
             return Err(wrong_limit(level));
         }

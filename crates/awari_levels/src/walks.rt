@@ -2,11 +2,9 @@
 
 ghost use Rattle.std.specs.Prelude.{◌≡◌, ◌<◌, ◌≤◌, ◌+◌, ◌%◌, ◌==◌, ◌&&◌, ℕ, [], if◌then◌else◌, List, IfOk};
 ghost use Rattle.awari_facts.specs.Numbers.{IsAt};
-ghost use Rattle.awari_facts.specs.Sources.{SaysBy, levels_of};
+ghost use Rattle.awari_facts.specs.Sources.{IsThere, SaysBy, levels_of};
 ghost use Rattle.awari_folder.specs.State.{Unchanged};
-ghost use Rattle.awari_rank.specs.Rank.{size_of};
 ghost use Rattle.awari_table.specs.Images.{entry_of};
-ghost use Rattle.awari_table.specs.declared.TheConstants.{HIGHEST_LEVEL};
 ghost use Rattle.awari_table.specs.declared.images.Image.{Image};
 ghost use Rattle.awari_levels.specs.Listing.{farthest_of, key_if, passes};
 ghost use Rattle.awari_levels.specs.Segments.{HasKeys};
@@ -111,9 +109,7 @@ pub(crate) fn look<R: Threads + Sync, F: Folder>(
     segment: &mut Segment,
     seen: &Seen,
 ) -> Result<Option<i64>, FolderFault>
-    requires level { seen.now.level < levels_of asked.source }
-    requires few { levels_of asked.source ≤ HIGHEST_LEVEL + 1 }
-    requires rank { seen.now.rank < size_of seen.now.level }
+    requires { IsThere (levels_of asked.source) seen.now.level seen.now.rank }
     ensures key { (images : List Image) → SaysBy asked.entry.source (F.state folder.old).stands images
         → HasKeys asked.entry.wanted.now images seen.now.level segment.old → (board : List ℕ) → IsAt images seen.now.level seen.now.rank board seen.now.entry
         → IfOk result (λ key. key ≡ key_if asked.entry.wanted.now images board) }
@@ -160,9 +156,7 @@ pub(crate) fn step<R: Threads + Sync, F: Folder>(
     walk: &mut Walk,
     rank: u32,
 ) -> Result<Option<Taken>, FolderFault>
-    requires level { choice.asked.level < levels_of choice.asked.source }
-    requires few { levels_of choice.asked.source ≤ HIGHEST_LEVEL + 1 }
-    requires rank { rank < size_of choice.asked.level }
+    requires there { IsThere (levels_of choice.asked.source) choice.asked.level rank }
     requires every { (0 < choice.asked.wanted.now.every) × (walk.old.passed ≤ rank) × (rank < 4294967295) }
     ensures walked { IfOk result (λ _. walk.new.passed ≤ rank + 1) }
     ensures stepped { (images : List Image) → SaysBy choice.entry.asked.source (F.state folder.old).stands images → choice.entry.farthest ≡ farthest_of choice.entry.asked.wanted.now images choice.entry.asked.level → (boards : List (List ℕ))

@@ -1,9 +1,10 @@
 //! Which boards of a level are wanted.
 
-ghost use Rattle.std.specs.Prelude.{◌≡◌, ◌<◌, ◌≤◌, ◌+◌, true, false, ℕ, List, Option, IfOk, IfSome, IsNone, length, sum, ℤ};
+ghost use Rattle.std.specs.Prelude.{◌≡◌, ◌<◌, ◌≤◌, true, false, ℕ, List, Option, IfOk, IfSome, IsNone, length, sum, ℤ};
+ghost use Rattle.awari_places.specs.Places.{IsLevelOf};
 ghost use Rattle.awari_facts.specs.Facts.{gains_in};
 ghost use Rattle.awari_facts.specs.Numbers.{IsAt};
-ghost use Rattle.awari_facts.specs.Sources.{SaysBy, levels_of};
+ghost use Rattle.awari_facts.specs.Sources.{IsThere, SaysBy, levels_of};
 ghost use Rattle.awari_facts.specs.declared.looks.Gained.{Gained as AGained};
 ghost use Rattle.awari_folder.specs.State.{Unchanged};
 ghost use Rattle.awari_rank.specs.Rank.{size_of};
@@ -187,8 +188,7 @@ fn weighs_in<F: Folder>(
     board: &PackedBoard,
     value: i8,
 ) -> Result<bool, FolderFault>
-    requires known { sum board.now < levels_of source }
-    requires few { levels_of source ≤ HIGHEST_LEVEL + 1 }
+    requires { IsLevelOf (levels_of source) (sum board.now) }
     ensures weighed { (images : List Image) → SaysBy source.entry (F.state folder.old).stands images → IfOk result (λ b. b ≡ weighs spans.now (gains_in images board.now) value) }
     ensures same { Unchanged (F.state folder.old) (F.state folder.new) }
 {
@@ -208,8 +208,7 @@ fn is_weighed<F: Folder>(
     board: &PackedBoard,
     value: i8,
 ) -> Result<bool, FolderFault>
-    requires known { sum board.now < levels_of source }
-    requires few { levels_of source ≤ HIGHEST_LEVEL + 1 }
+    requires { IsLevelOf (levels_of source) (sum board.now) }
     ensures weighed { (images : List Image) → SaysBy source.entry (F.state folder.old).stands images → value ≡ (entry_of images board.now).value
         → IfOk result (λ b. b ≡ is_weighed wanted.now images board.now) }
     ensures same { Unchanged (F.state folder.old) (F.state folder.new) }
@@ -248,9 +247,7 @@ fn is_within<F: Folder>(
     wanted: &Wanted,
     seen: &Seen,
 ) -> Result<bool, FolderFault>
-    requires level { seen.now.level < levels_of source }
-    requires few { levels_of source ≤ HIGHEST_LEVEL + 1 }
-    requires rank { seen.now.rank < size_of seen.now.level }
+    requires { IsThere (levels_of source) seen.now.level seen.now.rank }
     ensures within { (images : List Image) (board : List ℕ) → SaysBy source.entry (F.state folder.old).stands images → IsAt images seen.now.level seen.now.rank board seen.now.entry
         → IfOk result (λ b. b ≡ is_within wanted.now images board) }
     ensures same { Unchanged (F.state folder.old) (F.state folder.new) }
@@ -285,9 +282,7 @@ pub(crate) fn key_of_board<F: Folder>(
     wanted: &Wanted,
     seen: &Seen,
 ) -> Result<Option<i64>, FolderFault>
-    requires level { seen.now.level < levels_of source }
-    requires few { levels_of source ≤ HIGHEST_LEVEL + 1 }
-    requires rank { seen.now.rank < size_of seen.now.level }
+    requires { IsThere (levels_of source) seen.now.level seen.now.rank }
     ensures key { (images : List Image) (board : List ℕ) → SaysBy source.entry (F.state folder.old).stands images → IsAt images seen.now.level seen.now.rank board seen.now.entry
         → IfOk result (λ key. key ≡ key_if wanted.now images board) }
     ensures same { Unchanged (F.state folder.old) (F.state folder.new) }

@@ -3,7 +3,6 @@ use Rattle.std.specs.Prelude.{◌≡◌, ℕ, ◌+◌, ◌*◌, ◌<◌, ◌≤�
 use Rattle.awari_facts.specs.Numbers.{number_in}
 use Rattle.awari_rank.specs.Rank.{size_of}
 use Rattle.awari_rank.specs.Tuples.{tuples}
-use Rattle.awari_table.specs.declared.TheConstants.{HIGHEST_LEVEL}
 use Rattle.awari_table.specs.declared.images.Image.{Image}
 use Rattle.awari_pairs.specs.Pairs.{has_pair}
 use Rattle.awari_pairs.specs.Ranges.{number_at, width_of}
@@ -19,12 +18,6 @@ columns_of asked = width_of asked.limit asked.pair.second
 
 abbrev pub cells_of : Asked → ℕ
 cells_of asked = rows_of asked * columns_of asked
-
--- of this many levels this one is there, and has a board of this rank
-pub record IsThere (levels level rank : ℕ) : Type 0 where
-  pub known : level < levels
-  pub few : levels ≤ HIGHEST_LEVEL + 1
-  pub ranked : rank < size_of level
 
 -- the cell of two numbers
 pub record IsCell (asked : Asked) (first second : ℤ) (cell : ℕ) : Type 0 where

@@ -1,11 +1,11 @@
 //! The command `counts --by`: a level's boards by two columns.
 
-ghost use Rattle.std.specs.Prelude.{◌≡◌, ◌<◌, ◌≤◌, ◌+◌, List, IfOk, Ok, length, true};
+ghost use Rattle.std.specs.Prelude.{◌≡◌, ◌<◌, ◌≤◌, List, IfOk, Ok, length, true};
 ghost use Rattle.std.specs.Io.KnownBytes.{Appends};
 ghost use Rattle.awari_facts.specs.Sources.{IsSaidOf, limit_of};
 ghost use Rattle.awari_folder.specs.Contents.{Same};
 ghost use Rattle.awari_folder.specs.State.{Unchanged};
-ghost use Rattle.awari_places.specs.Places.{Says};
+ghost use Rattle.awari_places.specs.Places.{IsLevelOf, Says};
 ghost use Rattle.awari_rank.specs.Tuples.{tuples};
 ghost use Rattle.awari_table.specs.declared.TheConstants.{HIGHEST_LEVEL};
 ghost use Rattle.awari_table.specs.declared.images.Image.{Image};
@@ -128,14 +128,8 @@ fn print_pairs_on<T: Threads + Sync, W: Write>(
 {
     // For the proof: there are at most 25 levels.
     let _levels = shelf.levels();
-    let asked = match asked_of(wish, shelf.level(wish.level).limit()) {
-        Ok(asked) => asked,
-        Err(fault) => return Err(fault),
-    };
-    let counts = match count_on(rt, alloc, shelf, asked) {
-        Ok(counts) => counts,
-        Err(fault) => return Err(fault),
-    };
+    let asked = asked_of(wish, shelf.level(wish.level).limit())?;
+    let counts = count_on(rt, alloc, shelf, asked)?;
     Ok(print_table(counts.as_slice(), asked, wish.form, writer))
 }
 
@@ -150,25 +144,15 @@ fn print_pairs_said<F: Folder, W: Write>(
     wish: Wish,
     writer: &mut W,
 ) -> Result<bool, FolderFault>
-    requires level { wish.level < levels }
-    requires few { levels ≤ HIGHEST_LEVEL + 1 }
+    requires { IsLevelOf levels wish.level }
     ensures printed { (images : List Image) → Says (F.state folder.old).stands levels images → result ≡ Ok true
         → Appends (W.contents writer.old) (W.contents writer.new) (pair_lines wish.form wish.pair images wish.level (limit_of images wish.level)) }
     ensures same { Unchanged (F.state folder.old) (F.state folder.new) }
 {
     let source = Source::Files(levels);
-    let limit = match read_limit(source, folder, wish.level) {
-        Ok(limit) => limit,
-        Err(fault) => return Err(fault),
-    };
-    let asked = match asked_of(wish, limit) {
-        Ok(asked) => asked,
-        Err(fault) => return Err(fault),
-    };
-    let counts = match count_pairs(alloc, source, folder, asked) {
-        Ok(counts) => counts,
-        Err(fault) => return Err(fault),
-    };
+    let limit = read_limit(source, folder, wish.level)?;
+    let asked = asked_of(wish, limit)?;
+    let counts = count_pairs(alloc, source, folder, asked)?;
     Ok(print_table(counts.as_slice(), asked, wish.form, writer))
 }
 

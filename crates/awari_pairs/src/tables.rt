@@ -1,13 +1,13 @@
 //! How many boards of a level have each pair of numbers of two columns.
 
-ghost use Rattle.std.specs.Prelude.{◌≡◌, ◌<◌, ◌≤◌, ◌+◌, ◌^◌, ℕ, List, IfOk, IfSome, IsNone, slice_index, slice_set, vec_len};
+ghost use Rattle.std.specs.Prelude.{◌≡◌, ◌<◌, ◌+◌, ◌^◌, ℕ, List, IfOk, IfSome, IsNone, slice_index, slice_set, vec_len};
+ghost use Rattle.awari_places.specs.Places.{IsLevelOf};
 ghost use Rattle.awari_facts.specs.Numbers.{IsAt};
-ghost use Rattle.awari_facts.specs.Sources.{SaysBy, levels_of};
+ghost use Rattle.awari_facts.specs.Sources.{IsThere, SaysBy, levels_of};
 ghost use Rattle.awari_folder.specs.State.{Unchanged};
 ghost use Rattle.awari_rank.specs.Tuples.{tuples};
-ghost use Rattle.awari_table.specs.declared.TheConstants.{HIGHEST_LEVEL};
 ghost use Rattle.awari_table.specs.declared.images.Image.{Image};
-ghost use Rattle.awari_pairs.specs.Tables.{AreCounted, IsCell, IsCellOf, IsThere, cells_of};
+ghost use Rattle.awari_pairs.specs.Tables.{AreCounted, IsCell, IsCellOf, cells_of};
 
 use crate::ranges::{place_of, width_of};
 use awari_facts::{Seen, Source, number_of, read_entry};
@@ -74,14 +74,8 @@ fn cell_of<F: Folder>(
         → IfOk result (IsCellOf images asked board) }
     ensures same { Unchanged (F.state folder.old) (F.state folder.new) }
 {
-    let first = match number_of(source, folder, asked.pair.first, seen) {
-        Ok(first) => first,
-        Err(fault) => return Err(fault),
-    };
-    let second = match number_of(source, folder, asked.pair.second, seen) {
-        Ok(second) => second,
-        Err(fault) => return Err(fault),
-    };
+    let first = number_of(source, folder, asked.pair.first, seen)?;
+    let second = number_of(source, folder, asked.pair.second, seen)?;
     match cell_at(asked, first, second) {
         Some(cell) => Ok(cell),
         None => Err(wrong_limit(asked.level)),
@@ -107,29 +101,19 @@ pub(crate) fn count_pairs<F: Folder>(
     folder: &mut F,
     asked: Asked,
 ) -> Result<Vec<u32>, FolderFault>
-    requires level { asked.level < levels_of source }
-    requires few { levels_of source ≤ HIGHEST_LEVEL + 1 }
+    requires { IsLevelOf (levels_of source) asked.level }
     ensures long { IfOk result (λ counts. vec_len counts ≡ cells_of asked) }
     ensures counted { (images : List Image) → SaysBy source.entry (F.state folder.old).stands images
         → IfOk result (λ counts. AreCounted images asked (tuples 12 asked.level) counts.items) }
     ensures same { Unchanged (F.state folder.old) (F.state folder.new) }
 {
     let level = asked.level;
-    let mut counts = match new_counts(alloc, asked) {
-        Ok(counts) => counts,
-        Err(fault) => return Err(fault),
-    };
+    let mut counts = new_counts(alloc, asked)?;
     let mut run = Run::new();
     for rank in 0..size(level) {
-        let entry = match read_entry(source, folder, &mut run, level, rank) {
-            Ok(entry) => entry,
-            Err(fault) => return Err(fault),
-        };
+        let entry = read_entry(source, folder, &mut run, level, rank)?;
         let seen = Seen { level, rank, entry };
-        let cell = match cell_of(source, folder, asked, &seen) {
-            Ok(cell) => cell,
-            Err(fault) => return Err(fault),
-        };
+        let cell = cell_of(source, folder, asked, &seen)?;
         count(&mut counts, cell);
     }
     Ok(counts)

@@ -1,8 +1,9 @@
 -- What the bytes of files say of boards, each at its place, whether that is right or not.
-use Rattle.std.specs.Prelude.{◌≡◌, ℕ, List, map, take, drop, Option, Some, None, Result, Ok, Err}
+use Rattle.std.specs.Prelude.{◌≡◌, ◌<◌, ◌≤◌, ◌+◌, ℕ, List, map, take, drop, Option, Some, None, Result, Ok, Err}
 use Rattle.std.specs.List.{range_with_len}
 use Rattle.awari_rank.specs.Rank.{size_of}
 use Rattle.awari_table.specs.Images.{no_entry, no_image}
+use Rattle.awari_table.specs.declared.TheConstants.{HIGHEST_LEVEL}
 use Rattle.awari_table.specs.declared.images.Entry.{Entry}
 use Rattle.awari_table.specs.declared.images.Image.{Image}
 use Rattle.awari_file.specs.declared.contents.Header.{Header}
@@ -47,3 +48,8 @@ pub record Says (stands : ℕ → Option (Option (List ℕ))) (levels : ℕ) (im
   pub names : ℕ → Option (List ℕ)
   pub known : AreNames stands names
   pub said : images ≡ images_in names levels
+
+-- the level is one of these levels, which are no more than all
+pub record IsLevelOf (levels level : ℕ) : Type 0 where
+  pub known : level < levels
+  pub few : levels ≤ HIGHEST_LEVEL + 1

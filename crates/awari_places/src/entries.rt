@@ -1,6 +1,6 @@
 //! The entry of a board, read at its place.
 
-ghost use Rattle.std.specs.Prelude.{◌≡◌, ◌<◌, ◌≤◌, ◌+◌, ◌^◌, ℕ, List, Option, Some, IfOk, IfErr, IsSomeAnd, drop, length, sum, take};
+ghost use Rattle.std.specs.Prelude.{◌≡◌, ◌<◌, ◌≤◌, ◌^◌, ℕ, List, Option, Some, IfOk, IfErr, IsSomeAnd, drop, length, sum, take};
 ghost use Rattle.awari_file.specs.Reading.{entry_of as entry_of_six};
 ghost use Rattle.awari_folder.specs.Contents.{IsOfFile, Reads};
 ghost use Rattle.awari_folder.specs.FolderFault.{Names};
@@ -9,7 +9,7 @@ ghost use Rattle.awari_rank.specs.Rank.{size_of};
 ghost use Rattle.awari_table.specs.Images.{entry_of};
 ghost use Rattle.awari_table.specs.declared.TheConstants.{HIGHEST_LEVEL};
 ghost use Rattle.awari_table.specs.declared.images.Image.{Image};
-ghost use Rattle.awari_places.specs.Places.{Says, entry_in, entry_or_none};
+ghost use Rattle.awari_places.specs.Places.{IsLevelOf, Says, entry_in, entry_or_none};
 
 use awari_board::Board;
 use awari_file::{ENTRY_LEN, FileFault, entry_at, entry_place};
@@ -24,8 +24,7 @@ use awari_table::Entry;
 /// file has gone since, it is 81 with 68; if it has become too short, 81 with 60; if the bytes are no
 /// entry, 81 with 65.
 pub fn entry<F: Folder>(folder: &mut F, levels: u8, board: &Board) -> Result<Entry, FolderFault>
-    requires low { levels ≤ HIGHEST_LEVEL + 1 }
-    requires known { sum board.now < levels }
+    requires { IsLevelOf levels (sum board.now) }
     ensures entry { (images : List Image) → Says (F.state folder.old).stands levels images → IfOk result (λ e. e ≡ entry_of images board.now) }
     ensures reads { OnlyReads result (F.state folder.old) (F.state folder.new) }
     ensures named { IfErr result (Names (sum board.now)) }

@@ -1,6 +1,6 @@
 //! Boards that are judged by the rules of a table, one by one.
 
-ghost use Rattle.std.specs.Prelude.{◌≡◌, ◌<◌, ◌≤◌, ◌+◌, ℕ, List, None, IfOk, length, slice_index_or, sum};
+ghost use Rattle.std.specs.Prelude.{◌≡◌, ◌<◌, ◌≤◌, ℕ, List, None, IfOk, length, slice_index_or, sum};
 ghost use Rattle.awari_folder.specs.State.{Unchanged};
 ghost use Rattle.awari_table.specs.Certificate.{IsRight};
 ghost use Rattle.awari_table.specs.Images.{table_of};
@@ -8,7 +8,7 @@ ghost use Rattle.awari_table.specs.Reached.{Reaches};
 ghost use Rattle.awari_table.specs.declared.TheConstants.{HIGHEST_LEVEL};
 ghost use Rattle.awari_table.specs.declared.images.Image.{Image};
 ghost use Rattle.awari_verify.specs.Sights.{Sees};
-ghost use Rattle.awari_places.specs.Places.{Says};
+ghost use Rattle.awari_places.specs.Places.{IsLevelOf, Says};
 
 use crate::entries::entry;
 use crate::worths::reached;
@@ -25,18 +25,15 @@ pub(crate) fn judged<F: Folder>(
     levels: u8,
     board: &Board,
 ) -> Result<Seen, FolderFault>
-    requires low { levels ≤ HIGHEST_LEVEL + 1 }
-    requires known { sum board.now < levels }
+    requires { IsLevelOf levels (sum board.now) }
     ensures sees { (images : List Image) → Says (F.state folder.old).stands levels images → IfOk result (Sees (table_of images) board.now) }
     ensures right { (images : List Image) → Says (F.state folder.old).stands levels images → IfOk result (λ _. IsRight (table_of images) board.now) }
     ensures same { Unchanged (F.state folder.old) (F.state folder.new) }
 {
-    match see(folder, levels, board) {
-        Ok(seen) => match first_broken_rule(&seen) {
-            None => Ok(seen),
-            Some(rule) => Err(broken(board, rule)),
-        },
-        Err(fault) => Err(fault),
+    let seen = see(folder, levels, board)?;
+    match first_broken_rule(&seen) {
+        None => Ok(seen),
+        Some(rule) => Err(broken(board, rule)),
     }
 }
 
@@ -55,24 +52,18 @@ fn broken(board: &Board, rule: Rule) -> FolderFault
 
 /// What the files say of a board and of its moves.
 fn see<F: Folder>(folder: &mut F, levels: u8, board: &Board) -> Result<Seen, FolderFault>
-    requires low { levels ≤ HIGHEST_LEVEL + 1 }
-    requires known { sum board.now < levels }
+    requires { IsLevelOf levels (sum board.now) }
     ensures sees { (images : List Image) → Says (F.state folder.old).stands levels images → IfOk result (Sees (table_of images) board.now) }
     ensures same { Unchanged (F.state folder.old) (F.state folder.new) }
 {
-    let entry = match entry(folder, levels, board) {
-        Ok(entry) => entry,
-        Err(fault) => return Err(fault),
-    };
-    match see_moves(folder, levels, board) {
-        Ok(moves) => Ok(Seen {
-            stones: board.stones(),
-            entry,
-            end: board.end(),
-            moves,
-        }),
-        Err(fault) => Err(fault),
-    }
+    let entry = entry(folder, levels, board)?;
+    let moves = see_moves(folder, levels, board)?;
+    Ok(Seen {
+        stones: board.stones(),
+        entry,
+        end: board.end(),
+        moves,
+    })
 }
 
 /// Where the moves of a board's pits lead, none for a pit that is not legal.
@@ -81,8 +72,7 @@ fn see_moves<F: Folder>(
     levels: u8,
     board: &Board,
 ) -> Result<[Option<Reached>; 6], FolderFault>
-    requires low { levels ≤ HIGHEST_LEVEL + 1 }
-    requires known { sum board.now < levels }
+    requires { IsLevelOf levels (sum board.now) }
     ensures six { IfOk result (λ moves. length moves ≡ 6) }
     ensures moves { (images : List Image) → Says (F.state folder.old).stands levels images
         → IfOk result (λ moves. (x : ℕ) → x < 6 → Reaches (table_of images) board.now x (slice_index_or moves x None)) }
@@ -90,10 +80,7 @@ fn see_moves<F: Folder>(
 {
     let mut moves = [None; 6];
     for pit in 0..SIDE {
-        match see_move(folder, levels, board, pit) {
-            Ok(reached) => moves[pit as usize] = reached,
-            Err(fault) => return Err(fault),
-        }
+        moves[pit as usize] = see_move(folder, levels, board, pit)?;
     }
     Ok(moves)
 }
@@ -105,16 +92,12 @@ fn see_move<F: Folder>(
     board: &Board,
     pit: u8,
 ) -> Result<Option<Reached>, FolderFault>
-    requires low { levels ≤ HIGHEST_LEVEL + 1 }
-    requires known { sum board.now < levels }
+    requires { IsLevelOf levels (sum board.now) }
     ensures reached { (images : List Image) → Says (F.state folder.old).stands levels images → IfOk result (Reaches (table_of images) board.now pit) }
     ensures same { Unchanged (F.state folder.old) (F.state folder.new) }
 {
     if !board.legal(pit) {
         return Ok(None);
     }
-    match reached(folder, levels, board, pit) {
-        Ok(reached) => Ok(Some(reached)),
-        Err(fault) => Err(fault),
-    }
+    Ok(Some(reached(folder, levels, board, pit)?))
 }

@@ -1,15 +1,13 @@
 //! Play by the plans of both sides, as the files say them, up to the first outcome.
 
-ghost use Rattle.std.specs.Prelude.{◌≡◌, ◌<◌, ◌≤◌, ◌+◌, ◌++◌, ◌∷◌, [], ℕ, List, Some, IfOk, sum};
-ghost use Rattle.awari_board.specs.Rules.{IsBoard, IsLegal};
+ghost use Rattle.std.specs.Prelude.{◌≡◌, List, Some, IfOk, sum};
+ghost use Rattle.awari_board.specs.Rules.{IsLegal};
 ghost use Rattle.awari_folder.specs.State.{Unchanged};
 ghost use Rattle.awari_game.specs.Plays.{IsPlay, Standing, start};
-ghost use Rattle.awari_game.specs.Shown.{Shows};
 ghost use Rattle.awari_play.specs.BestLine.{IsBestLine};
 ghost use Rattle.awari_table.specs.Images.{table_of};
-ghost use Rattle.awari_table.specs.declared.TheConstants.{HIGHEST_LEVEL};
 ghost use Rattle.awari_table.specs.declared.images.Image.{Image};
-ghost use Rattle.awari_places.specs.Places.{Says};
+ghost use Rattle.awari_places.specs.Places.{IsLevelOf, Says};
 
 use crate::entries::entry;
 use crate::opening::Opened;
@@ -32,8 +30,7 @@ pub fn best_line<F: Folder>(
     opened: Opened,
     board: Board,
 ) -> Result<Line, FolderFault>
-    requires low { opened.levels ≤ HIGHEST_LEVEL + 1 }
-    requires known { sum board < opened.levels }
+    requires { IsLevelOf opened.levels (sum board) }
     ensures line { (images : List Image) → Says (F.state folder.old).stands opened.levels images → IfOk result (λ line. IsBestLine (table_of images) opened.limit board line.moves.items line.outcome) }
     ensures play { IfOk result (λ line. (last : Standing) × IsPlay (start board) line.moves.items last) }
     ensures same { Unchanged (F.state folder.old) (F.state folder.new) }
@@ -49,8 +46,7 @@ fn play_out<F: Folder>(
     limit: u32,
     board: Board,
 ) -> Result<Line, FolderFault>
-    requires low { levels ≤ HIGHEST_LEVEL + 1 }
-    requires known { sum board < levels }
+    requires { IsLevelOf levels (sum board) }
     ensures line { (images : List Image) → Says (F.state folder.old).stands levels images → IfOk result (λ line. IsBestLine (table_of images) limit board line.moves.items line.outcome) }
     ensures play { IfOk result (λ line. (last : Standing) × IsPlay (start board) line.moves.items last) }
     ensures same { Unchanged (F.state folder.old) (F.state folder.new) }
@@ -61,44 +57,21 @@ fn play_out<F: Folder>(
         if let Some(outcome) = game.outcome(limit) {
             return Ok(Line { moves, outcome });
         }
-        match play_plan(folder, levels, &mut game) {
-            Ok(pit) => moves.push(pit)?,
-            Err(fault) => return Err(fault),
-        }
-    }
-}
-
-/// Plays the plan of the game's board, and answers it.
-fn play_plan<F: Folder>(folder: &mut F, levels: u8, game: &mut Game) -> Result<u8, FolderFault>
-    requires low { levels ≤ HIGHEST_LEVEL + 1 }
-    requires known { sum game.old.board < levels }
-    ensures board { IsBoard game.old.board }
-    ensures plan { (images : List Image) → Says (F.state folder.old).stands levels images → IfOk result (λ pit. (table_of images).plan game.old.board ≡ Some pit) }
-    ensures legal { IfOk result (IsLegal game.old.board) }
-    ensures played { IfOk result (λ pit. (board pits : List ℕ) → Shows game.old board pits → Shows game.new board (pits ++ pit ∷ [])) }
-    ensures same { Unchanged (F.state folder.old) (F.state folder.new) }
-{
-    match plan(folder, levels, &game.board()) {
-        Ok(pit) => {
-            play_pit(game, pit);
-            Ok(pit)
-        }
-        Err(fault) => Err(fault),
+        let pit = plan(folder, levels, &game.board())?;
+        play_pit(&mut game, pit);
+        moves.push(pit)?;
     }
 }
 
 /// The plan of a board, if it is legal.
 fn plan<F: Folder>(folder: &mut F, levels: u8, board: &Board) -> Result<u8, FolderFault>
-    requires low { levels ≤ HIGHEST_LEVEL + 1 }
-    requires known { sum board.now < levels }
+    requires { IsLevelOf levels (sum board.now) }
     ensures plan { (images : List Image) → Says (F.state folder.old).stands levels images → IfOk result (λ pit. (table_of images).plan board.now ≡ Some pit) }
     ensures legal { IfOk result (IsLegal board.now) }
     ensures same { Unchanged (F.state folder.old) (F.state folder.new) }
 {
-    match entry(folder, levels, board) {
-        Ok(entry) => legal_pit(board, entry.plan),
-        Err(fault) => Err(fault),
-    }
+    let entry = entry(folder, levels, board)?;
+    legal_pit(board, entry.plan)
 }
 
 /// The pit, if there is one that is legal on the board. It is refused as 81 with 65 if not.

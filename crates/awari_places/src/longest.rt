@@ -1,20 +1,18 @@
 //! Play in which the favoured side follows the plans that the files say, and the other side holds out.
 
-ghost use Rattle.std.specs.Prelude.{◌≡◌, ◌<◌, ◌≤◌, ◌+◌, ◌↔◌, ◌++◌, ◌∷◌, [], ℕ, List, Some, Option, IsTrue, IfOk, IfSome, pos, ◌<ℤ◌, ◌≤ℤ◌, sum};
+ghost use Rattle.std.specs.Prelude.{◌≡◌, ◌↔◌, ℕ, List, IsTrue, IfOk, IfSome, pos, ◌<ℤ◌, sum};
 ghost use Rattle.awari_board.specs.Rules.{IsBoard, IsLegal};
 ghost use Rattle.awari_folder.specs.State.{Unchanged};
 ghost use Rattle.awari_game.specs.Plays.{IsPlay, Standing, start};
-ghost use Rattle.awari_game.specs.Shown.{Shows};
 ghost use Rattle.awari_play.specs.Holding.{TakesPlies};
 ghost use Rattle.awari_play.specs.LongestLine.{HoldsLongest, IsLongestLine};
 ghost use Rattle.awari_table.specs.Certificate.{IsRight, MovesNoLater, Table};
 ghost use Rattle.awari_table.specs.Images.{table_of};
 ghost use Rattle.awari_table.specs.Reached.{Reaches};
-ghost use Rattle.awari_table.specs.declared.TheConstants.{HIGHEST_LEVEL};
 ghost use Rattle.awari_table.specs.declared.images.Image.{Image};
 ghost use Rattle.awari_verify.specs.Sights.{Sees};
 ghost use Rattle.awari_places.specs.Judging.{IsDueAt};
-ghost use Rattle.awari_places.specs.Places.{Says};
+ghost use Rattle.awari_places.specs.Places.{IsLevelOf, Says};
 
 use crate::judging::judged;
 use crate::lines::legal_pit;
@@ -39,16 +37,13 @@ pub fn longest_line<F: Folder>(
     levels: u8,
     board: Board,
 ) -> Result<Vec<u8>, FolderFault>
-    requires low { levels ≤ HIGHEST_LEVEL + 1 }
-    requires known { sum board < levels }
+    requires { IsLevelOf levels (sum board) }
     ensures line { (images : List Image) → Says (F.state folder.old).stands levels images → IfOk result (λ moves. IsLongestLine (table_of images) board moves.items) }
     ensures play { IfOk result (λ moves. (last : Standing) × IsPlay (start board) moves.items last) }
     ensures same { Unchanged (F.state folder.old) (F.state folder.new) }
 {
-    match judged(folder, levels, &board) {
-        Ok(seen) => hold_out(alloc, folder, levels, board, seen.entry.dist),
-        Err(fault) => Err(fault),
-    }
+    let seen = judged(folder, levels, &board)?;
+    hold_out(alloc, folder, levels, board, seen.entry.dist)
 }
 
 /// Plays as many plies as the distance of a board that was judged.
@@ -59,9 +54,8 @@ fn hold_out<F: Folder>(
     board: Board,
     dist: u32,
 ) -> Result<Vec<u8>, FolderFault>
-    requires low { levels ≤ HIGHEST_LEVEL + 1 }
+    requires level { IsLevelOf levels (sum board) }
     requires board { IsBoard board }
-    requires known { sum board < levels }
     requires judged { (images : List Image) → Says (F.state folder.old).stands levels images → IsRight (table_of images) board × (dist ≡ (table_of images).dist board) }
     ensures line { (images : List Image) → Says (F.state folder.old).stands levels images → IfOk result (λ moves. IsLongestLine (table_of images) board moves.items) }
     ensures play { IfOk result (λ moves. (last : Standing) × IsPlay (start board) moves.items last) }
@@ -70,48 +64,23 @@ fn hold_out<F: Folder>(
     let mut game = Game::start(board);
     let mut moves = Vec::new(alloc);
     for _ in 0..dist {
-        match play_due(folder, levels, &mut game) {
-            Ok(pit) => moves.push(pit)?,
-            Err(fault) => return Err(fault),
-        }
+        let pit = due_pit(folder, levels, &game.board())?;
+        play_pit(&mut game, pit);
+        moves.push(pit)?;
     }
-    match judged(folder, levels, &game.board()) {
-        Ok(_) => Ok(moves),
-        Err(fault) => Err(fault),
-    }
-}
-
-/// Plays the pit that is due on the game's board, and answers it.
-fn play_due<F: Folder>(folder: &mut F, levels: u8, game: &mut Game) -> Result<u8, FolderFault>
-    requires low { levels ≤ HIGHEST_LEVEL + 1 }
-    requires known { sum game.old.board < levels }
-    ensures board { IsBoard game.old.board }
-    ensures due { (images : List Image) → Says (F.state folder.old).stands levels images → IfOk result (IsDueAt (table_of images) game.old.board) }
-    ensures legal { IfOk result (IsLegal game.old.board) }
-    ensures played { IfOk result (λ pit. (board pits : List ℕ) → Shows game.old board pits → Shows game.new board (pits ++ pit ∷ [])) }
-    ensures same { Unchanged (F.state folder.old) (F.state folder.new) }
-{
-    match due_pit(folder, levels, &game.board()) {
-        Ok(pit) => {
-            play_pit(game, pit);
-            Ok(pit)
-        }
-        Err(fault) => Err(fault),
-    }
+    judged(folder, levels, &game.board())?;
+    Ok(moves)
 }
 
 /// The pit that is due on a board, which is judged first.
 fn due_pit<F: Folder>(folder: &mut F, levels: u8, board: &Board) -> Result<u8, FolderFault>
-    requires low { levels ≤ HIGHEST_LEVEL + 1 }
-    requires known { sum board.now < levels }
+    requires { IsLevelOf levels (sum board.now) }
     ensures due { (images : List Image) → Says (F.state folder.old).stands levels images → IfOk result (IsDueAt (table_of images) board.now) }
     ensures legal { IfOk result (IsLegal board.now) }
     ensures same { Unchanged (F.state folder.old) (F.state folder.new) }
 {
-    match judged(folder, levels, board) {
-        Ok(seen) => legal_pit(board, pit_by(&seen)),
-        Err(fault) => Err(fault),
-    }
+    let seen = judged(folder, levels, board)?;
+    legal_pit(board, pit_by(&seen))
 }
 
 /// The plan of a board that favours its mover, and the pit that holds out longest on one that does not.

@@ -1,6 +1,6 @@
 //! A line of play ply by ply, by the files where they lie.
 
-ghost use Rattle.std.specs.Prelude.{◌≡◌, ◌<◌, ◌≤◌, ◌+◌, ◌++◌, ◌∷◌, [], ℕ, List, IfOk, IfSome, length, pos, sum};
+ghost use Rattle.std.specs.Prelude.{◌≡◌, ◌≤◌, ◌++◌, ◌∷◌, [], ℕ, List, IfOk, IfSome, length, pos, sum};
 ghost use Rattle.std.specs.Ordering.{int_eq};
 ghost use Rattle.awari_board.specs.Rules.{IsBoard, IsLegal};
 ghost use Rattle.awari_folder.specs.State.{Unchanged};
@@ -8,9 +8,8 @@ ghost use Rattle.awari_game.specs.Plays.{IsPlay, Standing, start};
 ghost use Rattle.awari_game.specs.Shown.{Shows};
 ghost use Rattle.awari_play.specs.Plies.{AreLinePlies, IsLineBy, IsRepeatIf, boards_in, plies_of, ply_of};
 ghost use Rattle.awari_table.specs.Images.{entry_of, greatest_limit};
-ghost use Rattle.awari_table.specs.declared.TheConstants.{HIGHEST_LEVEL};
 ghost use Rattle.awari_table.specs.declared.images.Image.{Image};
-ghost use Rattle.awari_places.specs.Places.{Says};
+ghost use Rattle.awari_places.specs.Places.{IsLevelOf, Says};
 
 use crate::entries::entry;
 use crate::lines::best_line;
@@ -33,17 +32,14 @@ pub fn line_plies<F: Folder>(
     board: Board,
     longest: bool,
 ) -> Result<LinePlies, FolderFault>
-    requires low { opened.levels ≤ HIGHEST_LEVEL + 1 }
-    requires known { sum board < opened.levels }
+    requires { IsLevelOf opened.levels (sum board) }
     ensures plies { (images : List Image) → Says (F.state folder.old).stands opened.levels images → opened.limit ≡ greatest_limit images
         → IfOk result (λ found. AreLinePlies longest images board found.plies.items found.repeat) }
     ensures within { IfOk result (λ found. IfSome found.repeat (λ r. r.again ≤ length found.plies.items)) }
     ensures same { Unchanged (F.state folder.old) (F.state folder.new) }
 {
-    match moves_of(alloc, folder, opened, board, longest) {
-        Ok(moves) => told_plies(alloc, folder, opened.levels, board, moves.as_slice()),
-        Err(fault) => Err(fault),
-    }
+    let moves = moves_of(alloc, folder, opened, board, longest)?;
+    told_plies(alloc, folder, opened.levels, board, moves.as_slice())
 }
 
 /// The pits of the line of play from a board, by the plans of both sides or with one that holds out.
@@ -54,8 +50,7 @@ fn moves_of<F: Folder>(
     board: Board,
     longest: bool,
 ) -> Result<Vec<u8>, FolderFault>
-    requires low { opened.levels ≤ HIGHEST_LEVEL + 1 }
-    requires known { sum board < opened.levels }
+    requires { IsLevelOf opened.levels (sum board) }
     ensures line { (images : List Image) → Says (F.state folder.old).stands opened.levels images → opened.limit ≡ greatest_limit images
         → IfOk result (λ moves. IsLineBy longest images board moves.items) }
     ensures play { IfOk result (λ moves. (last : Standing) × IsPlay (start board) moves.items last) }
@@ -64,10 +59,7 @@ fn moves_of<F: Folder>(
     if longest {
         return longest_line(alloc, folder, opened.levels, board);
     }
-    let line = match best_line(alloc, folder, opened, board) {
-        Ok(line) => line,
-        Err(fault) => return Err(fault),
-    };
+    let line = best_line(alloc, folder, opened, board)?;
     Ok(line.moves)
 }
 
@@ -79,25 +71,17 @@ fn told_plies<F: Folder>(
     board: Board,
     moves: &[u8],
 ) -> Result<LinePlies, FolderFault>
-    requires low { levels ≤ HIGHEST_LEVEL + 1 }
-    requires known { sum board < levels }
+    requires level { IsLevelOf levels (sum board) }
     requires play { (last : Standing) × IsPlay (start board) moves.now last }
     ensures each { (images : List Image) → Says (F.state folder.old).stands levels images → IfOk result (λ found. found.plies.items ≡ plies_of images 1 (start board) moves.now) }
     ensures repeats { (images : List Image) → Says (F.state folder.old).stands levels images → IfOk result (λ found. IsRepeatIf (int_eq (entry_of images board).value (pos 0)) (boards_in board found.plies.items) found.repeat) }
     ensures within { IfOk result (λ found. IfSome found.repeat (λ r. r.again ≤ length found.plies.items)) }
     ensures same { Unchanged (F.state folder.old) (F.state folder.new) }
 {
-    let entry = match entry(folder, levels, &board) {
-        Ok(entry) => entry,
-        Err(fault) => return Err(fault),
-    };
-    match plies_of(alloc, folder, levels, board, moves) {
-        Ok(plies) => {
-            let repeat = repeat_of(entry.value, &board, plies.as_slice());
-            Ok(LinePlies { plies, repeat })
-        }
-        Err(fault) => Err(fault),
-    }
+    let entry = entry(folder, levels, &board)?;
+    let plies = plies_of(alloc, folder, levels, board, moves)?;
+    let repeat = repeat_of(entry.value, &board, plies.as_slice());
+    Ok(LinePlies { plies, repeat })
 }
 
 /// The plies of a play from a board.
@@ -108,8 +92,7 @@ fn plies_of<F: Folder>(
     board: Board,
     moves: &[u8],
 ) -> Result<Vec<Ply>, FolderFault>
-    requires low { levels ≤ HIGHEST_LEVEL + 1 }
-    requires known { sum board < levels }
+    requires level { IsLevelOf levels (sum board) }
     requires play { (last : Standing) × IsPlay (start board) moves.now last }
     ensures plies { (images : List Image) → Says (F.state folder.old).stands levels images → IfOk result (λ plies. plies.items ≡ plies_of images 1 (start board) moves.now) }
     ensures same { Unchanged (F.state folder.old) (F.state folder.new) }
@@ -117,10 +100,8 @@ fn plies_of<F: Folder>(
     let mut game = Game::start(board);
     let mut plies = Vec::new(alloc);
     for index in 0..moves.len() {
-        match play_ply(folder, levels, &mut game, index + 1, moves[index]) {
-            Ok(ply) => plies.push(ply)?,
-            Err(fault) => return Err(fault),
-        }
+        let ply = play_ply(folder, levels, &mut game, index + 1, moves[index])?;
+        plies.push(ply)?;
     }
     Ok(plies)
 }
@@ -133,8 +114,7 @@ fn play_ply<F: Folder>(
     number: usize,
     pit: u8,
 ) -> Result<Ply, FolderFault>
-    requires low { levels ≤ HIGHEST_LEVEL + 1 }
-    requires known { sum game.old.board < levels }
+    requires level { IsLevelOf levels (sum game.old.board) }
     requires legal { IsLegal game.old.board pit }
     ensures board { IsBoard game.old.board }
     ensures ply { (images : List Image) → Says (F.state folder.old).stands levels images
@@ -145,10 +125,7 @@ fn play_ply<F: Folder>(
     let Ok(moved) = game.board().play(pit) else {
         unreachable!()
     };
-    let entry = match entry(folder, levels, &moved.board) {
-        Ok(entry) => entry,
-        Err(fault) => return Err(fault),
-    };
+    let entry = entry(folder, levels, &moved.board)?;
     let Ok(()) = game.step(pit) else {
         unreachable!()
     };

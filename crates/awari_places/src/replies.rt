@@ -1,12 +1,11 @@
 //! The replies that a move leaves to the opponent, by the entries of the boards that they leave.
 
-ghost use Rattle.std.specs.Prelude.{◌≡◌, ◌<◌, ◌≤◌, ◌+◌, ℕ, List, IfOk, sum};
+ghost use Rattle.std.specs.Prelude.{List, IfOk, sum};
 ghost use Rattle.awari_board.specs.Rules.{IsLegal};
 ghost use Rattle.awari_folder.specs.State.{Unchanged};
 ghost use Rattle.awari_play.specs.Worths.{AreReplies};
-ghost use Rattle.awari_table.specs.declared.TheConstants.{HIGHEST_LEVEL};
 ghost use Rattle.awari_table.specs.declared.images.Image.{Image};
-ghost use Rattle.awari_places.specs.Places.{Says};
+ghost use Rattle.awari_places.specs.Places.{IsLevelOf, Says};
 
 use crate::entries::entry;
 use crate::worths::worths_of;
@@ -21,8 +20,7 @@ pub(crate) fn replies_to<F: Folder>(
     board: &Board,
     pit: u8,
 ) -> Result<Replies, FolderFault>
-    requires low { levels ≤ HIGHEST_LEVEL + 1 }
-    requires known { sum board.now < levels }
+    requires level { IsLevelOf levels (sum board.now) }
     requires legal { IsLegal board.now pit }
     ensures replies { (images : List Image) → Says (F.state folder.old).stands levels images → IfOk result (AreReplies images board.now pit) }
     ensures same { Unchanged (F.state folder.old) (F.state folder.new) }
@@ -30,14 +28,8 @@ pub(crate) fn replies_to<F: Folder>(
     let Ok(moved) = board.play(pit) else {
         unreachable!()
     };
-    let entry = match entry(folder, levels, &moved.board) {
-        Ok(entry) => entry,
-        Err(fault) => return Err(fault),
-    };
-    let replies = match worths_of(folder, levels, &moved.board) {
-        Ok(replies) => replies,
-        Err(fault) => return Err(fault),
-    };
+    let entry = entry(folder, levels, &moved.board)?;
+    let replies = worths_of(folder, levels, &moved.board)?;
     Ok(Replies {
         all: replies.len() as u8,
         keep: count_keeping(entry, replies.as_slice()),

@@ -107,8 +107,7 @@ fn fault_of_length(size: Option<u64>, whole: u64) -> Option<FileFault>
 
 /// Fills the run with the entries that these bytes spell, six bytes each, up to the first that is none.
 fn split(run: &mut Run, bytes: &[u8]) -> Result<(), FileFault>
-    requires room { length bytes.now ≤ RUN_BYTES }
-    requires some { 6 ≤ length bytes.now }
+    requires bytes { (6 ≤ length bytes.now) × (length bytes.now ≤ RUN_BYTES) }
     requires empty { run.old.count ≡ 0 }
     ensures first { run.new.first ≡ run.old.first }
     ensures entries { AreEntriesOf bytes.now run.new }

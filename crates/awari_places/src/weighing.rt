@@ -1,12 +1,11 @@
 //! A board's entry and what its moves are worth, by the files where they lie.
 
-ghost use Rattle.std.specs.Prelude.{◌≡◌, ◌<◌, ◌≤◌, ◌+◌, ℕ, All, List, IfOk, length, map, sum};
+ghost use Rattle.std.specs.Prelude.{◌≡◌, ◌≤◌, All, List, IfOk, length, map, sum};
 ghost use Rattle.awari_board.specs.Rules.{IsLegal};
 ghost use Rattle.awari_folder.specs.State.{Unchanged};
 ghost use Rattle.awari_play.specs.Worths.{IsReplied, IsWeighed, worth_in};
-ghost use Rattle.awari_table.specs.declared.TheConstants.{HIGHEST_LEVEL};
 ghost use Rattle.awari_table.specs.declared.images.Image.{Image};
-ghost use Rattle.awari_places.specs.Places.{Says};
+ghost use Rattle.awari_places.specs.Places.{IsLevelOf, Says};
 
 use crate::entries::entry;
 use crate::replies::replies_to;
@@ -26,23 +25,14 @@ pub fn weigh<F: Folder>(
     board: &Board,
     replies: bool,
 ) -> Result<Weighed, FolderFault>
-    requires low { levels ≤ HIGHEST_LEVEL + 1 }
-    requires known { sum board.now < levels }
+    requires { IsLevelOf levels (sum board.now) }
     ensures weighed { (images : List Image) → Says (F.state folder.old).stands levels images → IfOk result (IsWeighed replies images board.now) }
     ensures same { Unchanged (F.state folder.old) (F.state folder.new) }
 {
-    let entry = match entry(folder, levels, board) {
-        Ok(entry) => entry,
-        Err(fault) => return Err(fault),
-    };
-    let worths = match worths_of(folder, levels, board) {
-        Ok(worths) => worths,
-        Err(fault) => return Err(fault),
-    };
-    match with_replies(folder, levels, board, worths.as_slice(), replies) {
-        Ok(moves) => Ok(Weighed { entry, moves }),
-        Err(fault) => Err(fault),
-    }
+    let entry = entry(folder, levels, board)?;
+    let worths = worths_of(folder, levels, board)?;
+    let moves = with_replies(folder, levels, board, worths.as_slice(), replies)?;
+    Ok(Weighed { entry, moves })
 }
 
 /// The moves of a board with these worths, and the replies to each if `asked` says so.
@@ -53,8 +43,7 @@ fn with_replies<F: Folder>(
     worths: &[MoveWorth],
     asked: bool,
 ) -> Result<ArrayVec<WeighedMove, 6>, FolderFault>
-    requires low { levels ≤ HIGHEST_LEVEL + 1 }
-    requires known { sum board.now < levels }
+    requires level { IsLevelOf levels (sum board.now) }
     requires few { length worths.now ≤ 6 }
     requires legal { All (λ w. IsLegal board.now w.pit) worths.now }
     ensures worths { IfOk result (λ moves. map worth_in moves.items ≡ worths.now) }
@@ -63,10 +52,7 @@ fn with_replies<F: Folder>(
 {
     let mut moves = ArrayVec::new();
     for worth in worths {
-        match weighed_move(folder, levels, board, *worth, asked) {
-            Ok(weighed) => moves.push(weighed),
-            Err(fault) => return Err(fault),
-        }
+        moves.push(weighed_move(folder, levels, board, *worth, asked)?);
     }
     Ok(moves)
 }
@@ -79,24 +65,16 @@ fn weighed_move<F: Folder>(
     worth: MoveWorth,
     asked: bool,
 ) -> Result<WeighedMove, FolderFault>
-    requires low { levels ≤ HIGHEST_LEVEL + 1 }
-    requires known { sum board.now < levels }
+    requires level { IsLevelOf levels (sum board.now) }
     requires legal { IsLegal board.now worth.pit }
     ensures worth { IfOk result (λ moves. moves.worth ≡ worth) }
     ensures replies { (images : List Image) → Says (F.state folder.old).stands levels images → IfOk result (IsReplied asked images board.now) }
     ensures same { Unchanged (F.state folder.old) (F.state folder.new) }
 {
-    if asked {
-        return match replies_to(folder, levels, board, worth.pit) {
-            Ok(replies) => Ok(WeighedMove {
-                worth,
-                replies: Some(replies),
-            }),
-            Err(fault) => Err(fault),
-        };
+    if !asked {
+        let replies = None;
+        return Ok(WeighedMove { worth, replies });
     }
-    Ok(WeighedMove {
-        worth,
-        replies: None,
-    })
+    let replies = Some(replies_to(folder, levels, board, worth.pit)?);
+    Ok(WeighedMove { worth, replies })
 }

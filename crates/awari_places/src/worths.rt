@@ -1,15 +1,14 @@
 //! What each legal move of a board is worth, by the entries of the boards that they leave.
 
-ghost use Rattle.std.specs.Prelude.{◌≡◌, ◌<◌, ◌≤◌, ◌+◌, ◌↔◌, ℕ, All, Contains, List, Some, IfOk, sum};
+ghost use Rattle.std.specs.Prelude.{◌≡◌, All, List, Some, IfOk, sum};
 ghost use Rattle.awari_board.specs.Rules.{IsLegal};
 ghost use Rattle.awari_folder.specs.State.{Unchanged};
 ghost use Rattle.awari_play.specs.MoveWorth.{IsWorthOf, pit_of};
 ghost use Rattle.awari_play.specs.Worths.{AreWorths};
 ghost use Rattle.awari_table.specs.Images.{table_of};
 ghost use Rattle.awari_table.specs.Reached.{Reaches};
-ghost use Rattle.awari_table.specs.declared.TheConstants.{HIGHEST_LEVEL};
 ghost use Rattle.awari_table.specs.declared.images.Image.{Image};
-ghost use Rattle.awari_places.specs.Places.{Says};
+ghost use Rattle.awari_places.specs.Places.{IsLevelOf, Says};
 
 use crate::entries::entry;
 use arrayvec::ArrayVec;
@@ -24,8 +23,7 @@ pub(crate) fn worths_of<F: Folder>(
     levels: u8,
     board: &Board,
 ) -> Result<ArrayVec<MoveWorth, 6>, FolderFault>
-    requires low { levels ≤ HIGHEST_LEVEL + 1 }
-    requires known { sum board.now < levels }
+    requires { IsLevelOf levels (sum board.now) }
     ensures legal { IfOk result (λ worths. All (λ w. IsLegal board.now w.pit) worths.items) }
     ensures worths { (images : List Image) → Says (F.state folder.old).stands levels images → IfOk result (λ worths. AreWorths images board.now worths.items) }
     ensures same { Unchanged (F.state folder.old) (F.state folder.new) }
@@ -33,10 +31,7 @@ pub(crate) fn worths_of<F: Folder>(
     let mut worths = ArrayVec::new();
     let moves = board.moves();
     for pit in moves.as_slice() {
-        match worth_of(folder, levels, board, *pit) {
-            Ok(worth) => worths.push(worth),
-            Err(fault) => return Err(fault),
-        }
+        worths.push(worth_of(folder, levels, board, *pit)?);
     }
     Ok(worths)
 }
@@ -48,17 +43,13 @@ fn worth_of<F: Folder>(
     board: &Board,
     pit: u8,
 ) -> Result<MoveWorth, FolderFault>
-    requires low { levels ≤ HIGHEST_LEVEL + 1 }
-    requires known { sum board.now < levels }
+    requires level { IsLevelOf levels (sum board.now) }
     requires legal { IsLegal board.now pit }
     ensures pit { IfOk result (λ worth. worth.pit ≡ pit) }
     ensures worth { (images : List Image) → Says (F.state folder.old).stands levels images → IfOk result (IsWorthOf (table_of images) board.now pit) }
     ensures same { Unchanged (F.state folder.old) (F.state folder.new) }
 {
-    match reached(folder, levels, board, pit) {
-        Ok(reached) => Ok(worth_by(pit, reached)),
-        Err(fault) => Err(fault),
-    }
+    Ok(worth_by(pit, reached(folder, levels, board, pit)?))
 }
 
 /// What a legal pit of a board captures and leads to.
@@ -68,8 +59,7 @@ pub(crate) fn reached<F: Folder>(
     board: &Board,
     pit: u8,
 ) -> Result<Reached, FolderFault>
-    requires low { levels ≤ HIGHEST_LEVEL + 1 }
-    requires known { sum board.now < levels }
+    requires level { IsLevelOf levels (sum board.now) }
     requires legal { IsLegal board.now pit }
     ensures reached { (images : List Image) → Says (F.state folder.old).stands levels images → IfOk result (λ m. Reaches (table_of images) board.now pit (Some m)) }
     ensures same { Unchanged (F.state folder.old) (F.state folder.new) }
@@ -77,8 +67,6 @@ pub(crate) fn reached<F: Folder>(
     let Ok(moved) = board.play(pit) else {
         unreachable!()
     };
-    match entry(folder, levels, &moved.board) {
-        Ok(entry) => Ok(Reached::of(moved.captured, entry)),
-        Err(fault) => Err(fault),
-    }
+    let entry = entry(folder, levels, &moved.board)?;
+    Ok(Reached::of(moved.captured, entry))
 }

@@ -18,7 +18,7 @@ use Rattle.awari_theory.proofs.Sides.{quiet_more, quiet_none}
 use Rattle.awari_play.proofs.Following.{follows_more, one_more, one_standing}
 use Rattle.awari_play.proofs.Lowered.{one_move}
 use Rattle.awari_play.specs.Holding.{TakesPlies}
-use Rattle.awari_play.specs.LongestLine.{HoldsLongest, HoldsOut, IsLongestLine, favours_mover}
+use Rattle.awari_play.specs.LongestLine.{HoldsLongest, HoldsOut, IsDuePit, IsLongestLine, favours_mover}
 
 -- ---- the pit that holds out longest
 
@@ -99,12 +99,6 @@ up_turns v w gain up = omega (arith, ints, gain, up)
 
 down_turns : (v w : ℤ) → (pos 0 -ℤ w) ≤ℤ v → v <ℤ pos 0 → pos 0 <ℤ w
 down_turns v w more down = omega (arith, ints, more, down)
-
--- what is due on a board: its plan where it favours its mover, and where it favours the opponent the pit that holds out longest
-pub record IsDuePit (t : Table) (p : List ℕ) (x : ℕ) : Type 0 where
-  pub legal : IsLegal p x
-  pub favoured : pos 0 <ℤ t.value p → t.plan p ≡ Some x
-  pub other : t.value p <ℤ pos 0 → HoldsLongest t p x
 
 -- the plan of a won board takes as many plies as the distance
 won_plies : (t : Table) (p : List ℕ) (x c : ℕ) (q : List ℕ) → IsRight t p → 1 ≤ t.dist p → pos 0 <ℤ t.value p → t.plan p ≡ Some x → IsMove p x c q → plies c (t.dist q) ≡ t.dist p

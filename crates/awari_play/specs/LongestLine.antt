@@ -1,6 +1,6 @@
 -- The line of play in which the favoured side follows the plans of a table, and the other side holds out as long as it can.
-use Rattle.std.specs.Prelude.{◌≡◌, ◌≢◌, ◌⊎◌, ℕ, ◌<◌, Bool, not, List, [], ◌∷◌, length, take, pos, int_lt}
-use Rattle.awari_board.specs.Rules.{IsMove, IsEnded}
+use Rattle.std.specs.Prelude.{◌≡◌, ◌≢◌, ◌⊎◌, ℕ, ◌<◌, Bool, not, List, [], ◌∷◌, length, take, pos, int_lt, ◌<ℤ◌, Some}
+use Rattle.awari_board.specs.Rules.{IsMove, IsEnded, IsLegal}
 use Rattle.awari_game.specs.Plays.{Standing, start, after, IsPlay, Follows}
 use Rattle.awari_table.specs.Certificate.{Table, plies, MovesNoLater}
 
@@ -11,6 +11,13 @@ pub record HoldsLongest (t : Table) (p : List ℕ) (x : ℕ) : Type 0 where
   pub move : IsMove p x captured next
   pub most : MovesNoLater t p (plies captured (t.dist next))
   pub lowest : (y c : ℕ) (q : List ℕ) → y < x → IsMove p y c q → plies c (t.dist q) < plies captured (t.dist next)
+
+-- The pit is legal. It is the plan of a board that favours its mover, and the pit that holds out longest on one that favours the
+-- opponent.
+pub record IsDuePit (t : Table) (p : List ℕ) (x : ℕ) : Type 0 where
+  pub legal : IsLegal p x
+  pub favoured : pos 0 <ℤ t.value p → t.plan p ≡ Some x
+  pub other : t.value p <ℤ pos 0 → HoldsLongest t p x
 
 -- each ply of the first mover (of the second, at false) is the pit of its board that holds out longest
 abbrev pub HoldsOut : Table → Bool → Standing → List ℕ → Type 0

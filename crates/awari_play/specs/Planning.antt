@@ -13,6 +13,11 @@ use Rattle.awari_play.specs.Plan.{IsLowest}
 abbrev pub with_top : List Image → List Entry → List Image
 with_top shelf entries = shelf ++ record { level = length shelf; limit = 0; entries = entries } ∷ []
 
+-- there is such a level, and these are as many entries as it has
+pub record HasEntries (shelf : List Image) (entries : List Entry) : Type 0 where
+  pub low : length shelf ≤ 24
+  pub sized : length entries ≡ size_of (length shelf)
+
 -- A move gains the value of the board's own entry; and where that is positive, it captures or leads to a smaller distance.
 abbrev pub Gains : Entry → Reached → Type 0
 Gains own m = (gain_of m ≡ own.value) × (pos 0 <ℤ own.value → (0 < m.captured) ⊎ (m.plies ≤ own.dist))

@@ -1,12 +1,9 @@
--- A line of play ply by ply, where it comes back to a board, and the lines that tell it.
-use Rattle.std.specs.Prelude.{◌≡◌, ℕ, ◌+◌, ◌<◌, Bool, true, false, List, [], ◌∷◌, ◌++◌, length, map, slice_get, codes, ℤ, pos, Option, Some, None}
-use Rattle.std.specs.Fmt.{decimal, signed_decimal}
+-- A line of play ply by ply, and where it comes back to a board.
+use Rattle.std.specs.Prelude.{◌≡◌, ℕ, ◌+◌, ◌<◌, Bool, true, false, List, [], ◌∷◌, length, map, slice_get, ℤ, pos, Option, Some, None}
 use Rattle.std.specs.Ordering.{int_eq}
 use Rattle.awari_board.specs.Rules.{captured}
-use Rattle.awari_board.specs.Text.{text_of}
 use Rattle.awari_game.specs.Plays.{Standing, start, after}
 use Rattle.awari_table.specs.Images.{entry_of, greatest_limit, table_of}
-use Rattle.awari_table.specs.declared.images.Entry.{Entry}
 use Rattle.awari_table.specs.declared.images.Image.{Image}
 use Rattle.awari_play.specs.BestLine.{IsBestLine}
 use Rattle.awari_play.specs.LongestLine.{IsLongestLine}
@@ -54,18 +51,6 @@ IsRepeat boards (Some r) = IsFirstRepeat boards r
 abbrev pub IsRepeatIf : Bool → List (List ℕ) → Option Repeat → Type 0
 IsRepeatIf true boards r = IsRepeat boards r
 IsRepeatIf false boards r = r ≡ None
-
--- what stands after a ply
-abbrev pub then_text : ℤ → List ℕ → Entry → List ℕ
-then_text running board e = codes "running " ++ signed_decimal running ++ codes " board " ++ text_of board
-    ++ codes " value " ++ signed_decimal e.value ++ codes " distance " ++ decimal e.dist
-
-abbrev pub ply_text : Ply → List ℕ
-ply_text ply = codes "ply " ++ decimal ply.number ++ codes " pit " ++ decimal ply.pit ++ codes " captures " ++ decimal ply.captured
-    ++ codes " " ++ then_text ply.running ply.board ply.entry
-
-abbrev pub repeat_text : Repeat → List ℕ
-repeat_text r = codes "repeats " ++ decimal r.first
 
 -- the line in which one side holds out, or that in which both follow the plans, by the greatest limit of the levels
 abbrev pub IsLineBy : Bool → List Image → List ℕ → List ℕ → Type 0

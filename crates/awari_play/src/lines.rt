@@ -96,24 +96,10 @@ fn play_out(alloc: Global, shelf: &Shelf, board: Board, limit: u32) -> Result<Li
         if let Some(outcome) = game.outcome(limit) {
             return Ok(Line { moves, outcome });
         }
-        let pit = play_plan(shelf, &mut game);
+        let pit = plan(shelf, &game.board());
+        play_pit(&mut game, pit);
         moves.push(pit)?;
     }
-}
-
-/// Plays the plan of the game's board, on which some pit is legal, and answers that plan.
-fn play_plan(shelf: &Shelf, game: &mut Game) -> u8
-    requires shelf { IsShelf shelf.now }
-    requires known { sum game.old.board < length shelf.now }
-    requires open { (pit : ℕ) × IsLegal game.old.board pit }
-    ensures board { IsBoard game.old.board }
-    ensures plan { (table_of shelf.now).plan game.old.board ≡ Some result }
-    ensures legal { IsLegal game.old.board result }
-    ensures played { (board pits : List ℕ) → Shows game.old board pits → Shows game.new board (pits ++ result ∷ []) }
-{
-    let pit = plan(shelf, &game.board());
-    play_pit(game, pit);
-    pit
 }
 
 /// Plays a pit of the game's board. Condition: it is legal. It takes no memory.

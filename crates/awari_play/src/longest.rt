@@ -1,13 +1,12 @@
 //! Play in which the favoured side follows its plans, and the other side holds out as long as it can.
 
-ghost use Rattle.std.specs.Prelude.{◌≡◌, ◌<◌, ◌≤◌, ◌++◌, ◌∷◌, [], ◌↔◌, ℕ, List, IsTrue, IfOk, IfErr, Err, Some, length, pos, ◌<ℤ◌, sum};
-ghost use Rattle.awari_board.specs.Rules.{IsBoard, IsLegal};
-ghost use Rattle.awari_game.specs.Shown.{Shows};
+ghost use Rattle.std.specs.Prelude.{◌≡◌, ◌<◌, ◌≤◌, ◌↔◌, IsTrue, IfOk, IfErr, Err, length, sum};
+ghost use Rattle.awari_board.specs.Rules.{IsBoard};
 ghost use Rattle.awari_table.specs.Certificate.{MovesIn, MovesNoLater};
 ghost use Rattle.awari_table.specs.Images.{entry_of, table_of};
 ghost use Rattle.awari_table.specs.Shelves.{IsShelf};
 ghost use Rattle.awari_play.specs.LineFault.{IsDue};
-ghost use Rattle.awari_play.specs.LongestLine.{HoldsLongest, IsLongestLine};
+ghost use Rattle.awari_play.specs.LongestLine.{HoldsLongest, IsDuePit, IsLongestLine};
 ghost use Rattle.awari_play.specs.Holding.{TakesPlies};
 
 use crate::lines::{LineFault, plan, play_pit};
@@ -48,38 +47,20 @@ fn hold_out(alloc: Global, shelf: &Shelf, board: Board, dist: u32) -> Result<Vec
     let mut game = Game::start(board);
     let mut moves = Vec::new(alloc);
     for _ in 0..dist {
-        let pit = play_longest(shelf, &mut game);
+        let pit = longest_pit(shelf, &game.board());
+        play_pit(&mut game, pit);
         moves.push(pit)?;
     }
     Ok(moves)
 }
 
-/// Plays the pit that is due on the game's board, whose distance is not 0, and answers it.
-fn play_longest(shelf: &Shelf, game: &mut Game) -> u8
-    requires shelf { IsShelf shelf.now }
-    requires known { sum game.old.board < length shelf.now }
-    requires far { 1 ≤ (table_of shelf.now).dist game.old.board }
-    ensures board { IsBoard game.old.board }
-    ensures favoured { pos 0 <ℤ (table_of shelf.now).value game.old.board → (table_of shelf.now).plan game.old.board ≡ Some result }
-    ensures other { (table_of shelf.now).value game.old.board <ℤ pos 0 → HoldsLongest (table_of shelf.now) game.old.board result }
-    ensures legal { IsLegal game.old.board result }
-    ensures played { (board pits : List ℕ) → Shows game.old board pits → Shows game.new board (pits ++ result ∷ []) }
-{
-    let pit = longest_pit(shelf, &game.board());
-    play_pit(game, pit);
-    pit
-}
-
-/// The plan of a board that favours its mover, and the pit that holds out longest on one that favours
-/// the opponent.
+/// The pit that is due on a board whose distance is not 0.
 fn longest_pit(shelf: &Shelf, board: &Board) -> u8
     requires shelf { IsShelf shelf.now }
     requires board { IsBoard board.now }
     requires known { sum board.now < length shelf.now }
     requires far { 1 ≤ (table_of shelf.now).dist board.now }
-    ensures favoured { pos 0 <ℤ (table_of shelf.now).value board.now → (table_of shelf.now).plan board.now ≡ Some result }
-    ensures other { (table_of shelf.now).value board.now <ℤ pos 0 → HoldsLongest (table_of shelf.now) board.now result }
-    ensures legal { IsLegal board.now result }
+    ensures { IsDuePit (table_of shelf.now) board.now result }
 {
     let Ok(entry) = shelf.entry(board) else {
         unreachable!()

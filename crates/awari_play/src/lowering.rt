@@ -1,6 +1,6 @@
 //! The least distances of a level, found by lowering greater ones.
 
-ghost use Rattle.std.specs.Prelude.{◌≡◌, ◌≤◌, ◌<◌, IfOk, length, sum};
+ghost use Rattle.std.specs.Prelude.{◌≡◌, ◌<◌, IfOk, length, sum};
 ghost use Rattle.awari_rank.specs.Rank.{size_of};
 ghost use Rattle.awari_table.specs.Images.{entry_of, table_of};
 ghost use Rattle.awari_table.specs.Shelves.{Consistent};
@@ -8,7 +8,7 @@ ghost use Rattle.awari_theory.specs.Older.{ConsistentOld};
 ghost use Rattle.awari_play.specs.Least.{NoFarther, IsPlannedLowest};
 ghost use Rattle.awari_table.specs.Reached.{Reaches};
 ghost use Rattle.awari_play.specs.Lowering.{IsNearest, IsFarthest, IsByMoves, AreAbove, AreBelow, AreBelowTo, IsNearerBy, farther_by, IsLowered, Lowers, LowersBoard, Fell};
-ghost use Rattle.awari_play.specs.Planning.{with_top};
+ghost use Rattle.awari_play.specs.Planning.{HasEntries, with_top};
 
 use crate::plans::{planned_image, reached_by};
 use awari_board::SIDE;
@@ -35,8 +35,7 @@ pub fn least(alloc: Global, shelf: &Shelf, image: Image) -> Result<Image, AllocE
 /// Lowers distances until each is what its board's moves give. After k passes no distance of at most k
 /// plies can fall any more, so the next pass leaves those boards out.
 fn lower(shelf: &Shelf, entries: &mut Vec<Entry>)
-    requires low { length shelf.now ≤ 24 }
-    requires sized { length entries.old.items ≡ size_of (length shelf.now) }
+    requires level { HasEntries shelf.now entries.old.items }
     requires above { AreAbove shelf.now entries.old.items }
     ensures nearer { NoFarther entries.old.items entries.new.items }
     ensures above { AreAbove shelf.now entries.new.items }
@@ -51,8 +50,7 @@ fn lower(shelf: &Shelf, entries: &mut Vec<Entry>)
 /// Lowers the distance of each board that is farther than `near`, in order of rank, to what its
 /// moves give, and says whether one fell.
 fn lower_beyond(shelf: &Shelf, entries: &mut Vec<Entry>, near: u32) -> bool
-    requires low { length shelf.now ≤ 24 }
-    requires sized { length entries.old.items ≡ size_of (length shelf.now) }
+    requires level { HasEntries shelf.now entries.old.items }
     requires above { AreAbove shelf.now entries.old.items }
     requires below { AreBelowTo near shelf.now entries.old.items }
     ensures nearer { NoFarther entries.old.items entries.new.items }
@@ -71,8 +69,7 @@ fn lower_beyond(shelf: &Shelf, entries: &mut Vec<Entry>, near: u32) -> bool
 /// Lowers the distance of the board of this rank to what its moves give, if it is farther than
 /// `near`, and says whether it fell.
 fn lower_board(shelf: &Shelf, entries: &mut Vec<Entry>, near: u32, rank: u32) -> bool
-    requires low { length shelf.now ≤ 24 }
-    requires sized { length entries.old.items ≡ size_of (length shelf.now) }
+    requires level { HasEntries shelf.now entries.old.items }
     requires below { rank < size_of (length shelf.now) }
     ensures { LowersBoard shelf.now entries.old.items entries.new.items near rank result }
 {
@@ -115,9 +112,8 @@ fn lowered(entry: Entry, dist: u64) -> Option<Entry>
 
 /// The distance that the moves of the board of this entry give.
 fn by_moves(shelf: &Shelf, entries: &[Entry], board: &PackedBoard, own: Entry) -> u64
-    requires sized { length entries.now ≡ size_of (length shelf.now) }
+    requires level { HasEntries shelf.now entries.now }
     requires stones { sum board.now ≡ length shelf.now }
-    requires low { length shelf.now ≤ 24 }
     requires own { own ≡ entry_of (with_top shelf.now entries.now) board.now }
     ensures { IsByMoves (table_of (with_top shelf.now entries.now)) board.now result }
 {
@@ -132,9 +128,8 @@ fn by_moves(shelf: &Shelf, entries: &[Entry], board: &PackedBoard, own: Entry) -
 
 /// The fewest plies of a move that gains the board's value, or its distance if that is less.
 fn nearest(shelf: &Shelf, entries: &[Entry], board: &PackedBoard, own: Entry) -> u64
-    requires sized { length entries.now ≡ size_of (length shelf.now) }
+    requires level { HasEntries shelf.now entries.now }
     requires stones { sum board.now ≡ length shelf.now }
-    requires low { length shelf.now ≤ 24 }
     requires own { own ≡ entry_of (with_top shelf.now entries.now) board.now }
     ensures { IsNearest (table_of (with_top shelf.now entries.now)) board.now result }
 {
@@ -147,9 +142,8 @@ fn nearest(shelf: &Shelf, entries: &[Entry], board: &PackedBoard, own: Entry) ->
 
 /// The most plies of a move, 0 if there is none.
 fn farthest(shelf: &Shelf, entries: &[Entry], board: &PackedBoard) -> u64
-    requires sized { length entries.now ≡ size_of (length shelf.now) }
+    requires level { HasEntries shelf.now entries.now }
     requires stones { sum board.now ≡ length shelf.now }
-    requires low { length shelf.now ≤ 24 }
     ensures { IsFarthest (table_of (with_top shelf.now entries.now)) board.now result }
 {
     let mut farthest = 0u64;
@@ -184,9 +178,8 @@ fn farther(farthest: u64, reached: Option<Reached>) -> u64
 
 /// The move of this pit, if it is legal.
 fn reached(shelf: &Shelf, entries: &[Entry], board: &PackedBoard, pit: u8) -> Option<Reached>
-    requires sized { length entries.now ≡ size_of (length shelf.now) }
+    requires level { HasEntries shelf.now entries.now }
     requires stones { sum board.now ≡ length shelf.now }
-    requires low { length shelf.now ≤ 24 }
     ensures { Reaches (table_of (with_top shelf.now entries.now)) board.now pit result }
 {
     if !board.legal(pit) {

@@ -5,7 +5,7 @@ ghost use Rattle.awari_rank.specs.Rank.{rank_of, size_of};
 ghost use Rattle.awari_table.specs.Certificate.{plies};
 ghost use Rattle.awari_table.specs.Images.{entry_of, table_of};
 ghost use Rattle.awari_play.specs.Plan.{IsLowest, Serves};
-ghost use Rattle.awari_play.specs.Planning.{Gains, ArePlannedBelow, IsPlannedImage, SameSettled, with_top};
+ghost use Rattle.awari_play.specs.Planning.{Gains, ArePlannedBelow, HasEntries, IsPlannedImage, SameSettled, with_top};
 
 use awari_packed::{PackedBoard, PackedMove};
 use awari_rank::size;
@@ -38,8 +38,7 @@ pub fn planned_image(shelf: &Shelf, mut entries: Vec<Entry>) -> Image
 /// `entries` has an entry for each board of that level, in order of rank. Condition: the shelf has at
 /// most 24 levels. It takes no memory.
 fn set_lowest_plans(shelf: &Shelf, entries: &mut Vec<Entry>)
-    requires low { length shelf.now ≤ 24 }
-    requires sized { length entries.old.items ≡ size_of (length shelf.now) }
+    requires { HasEntries shelf.now entries.old.items }
     ensures same { SameSettled entries.old.items entries.new.items }
     ensures planned { ArePlannedBelow shelf.now entries.old.items entries.new.items (size_of (length shelf.now)) }
 {
@@ -64,9 +63,8 @@ fn set_lowest_plans(shelf: &Shelf, entries: &mut Vec<Entry>)
 /// each of them.
 #[inline(always)]
 fn lowest_plan(shelf: &Shelf, entries: &[Entry], board: &PackedBoard, rank: u32) -> Option<u8>
-    requires sized { length entries.now ≡ size_of (length shelf.now) }
+    requires level { HasEntries shelf.now entries.now }
     requires stones { sum board.now ≡ length shelf.now }
-    requires low { length shelf.now ≤ 24 }
     requires ranked { rank_of board.now ≡ rank }
     requires below { rank < size_of (length shelf.now) }
     ensures { IsLowest (table_of (with_top shelf.now entries.now)) board.now result }
@@ -97,9 +95,8 @@ fn lowest_plan(shelf: &Shelf, entries: &[Entry], board: &PackedBoard, rank: u32)
 /// a smaller distance.
 #[inline(always)]
 fn serves(shelf: &Shelf, entries: &[Entry], board: &PackedBoard, own: Entry, pit: u8) -> bool
-    requires sized { length entries.now ≡ size_of (length shelf.now) }
+    requires level { HasEntries shelf.now entries.now }
     requires stones { sum board.now ≡ length shelf.now }
-    requires low { length shelf.now ≤ 24 }
     requires own { own ≡ entry_of (with_top shelf.now entries.now) board.now }
     ensures { IsTrue result ↔ Serves (table_of (with_top shelf.now entries.now)) board.now pit }
 {
@@ -125,9 +122,8 @@ fn gains(own: Entry, reached: Reached) -> bool
 /// shelf says it, and only the value is read there.
 #[inline(always)]
 pub(crate) fn reached_by(shelf: &Shelf, entries: &[Entry], moved: &PackedMove) -> Reached
-    requires sized { length entries.now ≡ size_of (length shelf.now) }
+    requires level { HasEntries shelf.now entries.now }
     requires stones { sum moved.now.board + moved.now.captured ≡ length shelf.now }
-    requires low { length shelf.now ≤ 24 }
     ensures captured { result.captured ≡ moved.now.captured }
     ensures value { result.value ≡ (entry_of (with_top shelf.now entries.now) moved.now.board).value }
     ensures plies { result.plies ≡ plies moved.now.captured (entry_of (with_top shelf.now entries.now) moved.now.board).dist }

@@ -15,9 +15,8 @@ use awari_board::Board;
 use awari_game::Game;
 use awari_table::{Entry, Shelf};
 use std::alloc::{AllocError, Global};
-use std::fmt;
 
-/// A ply, and what stands then. It is printed as a line, without its line feed.
+/// A ply, and what stands then.
 #[derive(Clone, Copy, Debug, PartialEq, Eq)]
 pub struct Ply {
     /// The number of the ply, from 1 on.
@@ -34,74 +33,13 @@ pub struct Ply {
     pub entry: Entry,
 }
 
-impl fmt::Display for Ply {
-    ghost use Rattle.std.specs.Prelude.{Some};
-    ghost use Rattle.awari_play.specs.Plies.{ply_text};
-
-    ghost output = { λ ply. Some (ply_text ply) };
-
-    fn fmt<W: fmt::Write>(&self, f: &mut fmt::Formatter<W>) -> fmt::Result {
-        let Ply {
-            number,
-            pit,
-            captured,
-            running,
-            board,
-            entry,
-        } = *self;
-        let then = Then {
-            running,
-            board,
-            entry,
-        };
-        write!(f, "ply {number} pit {pit} captures {captured} {then}")
-    }
-}
-
-/// What stands after a ply. It is printed as the end of the ply's line.
-#[derive(Clone, Copy)]
-struct Then {
-    running: i16,
-    board: Board,
-    entry: Entry,
-}
-
-impl fmt::Display for Then {
-    ghost use Rattle.std.specs.Prelude.{Some};
-    ghost use Rattle.awari_play.specs.Plies.{then_text};
-
-    ghost output = { λ then. Some (then_text then.running then.board then.entry) };
-
-    fn fmt<W: fmt::Write>(&self, f: &mut fmt::Formatter<W>) -> fmt::Result {
-        let running = self.running;
-        let board = self.board;
-        let value = self.entry.value;
-        let distance = self.entry.dist;
-        write!(
-            f,
-            "running {running} board {board} value {value} distance {distance}"
-        )
-    }
-}
-
-/// Where a line of play comes back to a board. It is printed as a line, without its line feed.
+/// Where a line of play comes back to a board.
 #[derive(Clone, Copy, Debug, PartialEq, Eq)]
 pub struct Repeat {
     /// The plies after which the board stood already; 0 if it is the first board.
     pub first: usize,
     /// The plies after which it stands again.
     pub again: usize,
-}
-
-impl fmt::Display for Repeat {
-    ghost use Rattle.std.specs.Prelude.{Some};
-    ghost use Rattle.awari_play.specs.Plies.{repeat_text};
-
-    ghost output = { λ repeat. Some (repeat_text repeat) };
-
-    fn fmt<W: fmt::Write>(&self, f: &mut fmt::Formatter<W>) -> fmt::Result {
-        write!(f, "repeats {}", self.first)
-    }
 }
 
 /// The plies of a line of play, and where it comes back to a board.

@@ -16,9 +16,7 @@ returns-in-Err-clause-fault t c =
 
 pub plus-requires : goal.plus-requires
 plus-requires t c =
-    let so_far = counting-fits _ _ _ _ c.loop-pit.invariant in
-    let more = counts-fit _ _ _ _ c.in-Ok-counts_after.ensures.counted in
-    record { captures = so_far.captures; ends = so_far.ends; more_captures = more.captures; more_ends = more.ends }
+    record { own = counting-fits _ _ _ _ c.loop-pit.invariant; more = counts-fit _ _ _ _ c.in-Ok-counts_after.ensures.counted }
 
 pub returns-in_default-plus-clause-fault : goal.returns-in_default-plus-clause-fault
 returns-in_default-plus-clause-fault t c =
@@ -27,7 +25,7 @@ returns-in_default-plus-clause-fault t c =
 
 pub loop-pit-preserved : goal.loop-pit-preserved
 loop-pit-preserved t c =
-    counting-more _ _ _ _ _ _ _ _ c.loop-pit.invariant c.in-Ok.ensures.moved c.in-Ok-counts_after.ensures.counted c.in-Some-plus.ensures.plays c.in-Some-plus.ensures.captures c.in-Some-plus.ensures.ends
+    counting-more _ _ _ _ _ _ _ _ c.loop-pit.invariant c.in-Ok.ensures.moved c.in-Ok-counts_after.ensures.counted c.in-Some-plus.ensures.sums.0 c.in-Some-plus.ensures.sums.1 c.in-Some-plus.ensures.sums.2
 
 pub keep-requires : goal.keep-requires
 keep-requires t c before =

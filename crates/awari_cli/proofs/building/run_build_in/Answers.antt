@@ -3,10 +3,11 @@ use Rattle.awari_cli.proofs.building.run_build_in.Goals as goal
 
 pub returns-in-Ok-clause-built : goal.returns-in-Ok-clause-built
 returns-in-Ok-clause-built g c = λ done.
+    let b = c.build_up_in.ensures.built done in
     prints_on (g.F.Folder.state c.args.folder.now).stands (g.F.Folder.state c.load.new.folder).stands (g.F.Folder.state c.build_up_in.new.folder).stands c.args.top
     c.in-Ok.stored.shelf c.build_up_in.new.stored.shelf c.in-Ok.stored.digest c.build_up_in.new.stored.digest _ _
-    c.in-Ok.ensures.exact c.in-Ok.ensures.reads.unchanged.stands (c.build_up_in.ensures.shelf done) (λ held. c.build_up_in.ensures.holds held done)
-    (c.build_up_in.ensures.planned done) (c.build_up_in.ensures.built done)
+    c.in-Ok.ensures.exact c.in-Ok.ensures.reads.unchanged.stands (b.shelf, b.high) (λ held. c.build_up_in.ensures.holds held done)
+    b.planned b.built
 
 pub returns-in-Ok-clause-keeps : goal.returns-in-Ok-clause-keeps
 returns-in-Ok-clause-keeps g c = keeps_on (g.F.Folder.state c.args.folder.now).stands (g.F.Folder.state c.load.new.folder).stands (g.F.Folder.state c.build_up_in.new.folder).stands

@@ -6,8 +6,8 @@ use Rattle.awari_facts.specs.Facts.{gains_in, moves_gaining}
 use Rattle.awari_facts.specs.Numbers.{number_in}
 use Rattle.awari_facts.proofs.numbers.number_of.Goals as goal
 
-pub gains_of-requires-clause-known : goal.gains_of-requires-clause-known
-gains_of-requires-clause-known g c = omega (arith, c.requires.level, c.board.ensures.stones)
+pub gains_of-requires : goal.gains_of-requires
+gains_of-requires g c = record { known = omega (arith, c.requires.known, c.board.ensures.stones); few = c.requires.few }
 
 pub returns-in_ok-moves-in-None-clause-number : goal.returns-in_ok-moves-in-None-clause-number
 unfolding number_in

@@ -55,7 +55,7 @@ returns-in_err-digest-clause-exact g c = λ names others from to.
     let migrated = subst (IsNextMigrated c.loop.shelf c.loop.below (names n)) c.in-Some.is (c.in_ok-next.ensures.exact (names n) (others n) (i.unchanged.stands n ∙ from n)) in
     let right = subst (λ o. IfSome o (λ m. Consistent c.loop.shelf m.level)) c.in-Some.is c.in_ok-next.ensures.right in
     rw (p.1, p.2) (store_first names others _ _ c.loop.counter c.loop.shelf c.loop.below next.digest c.loop.limits.items c.loop.digest next.level put next.limits _ i.levels same (i.come names others from to) migrated right
-    c.in_err-digest.ensures.fault c.in_err-digest.ensures.err)
+    c.in_err-digest.ensures.fault c.in_err-digest.ensures.outcome.err)
 
 pub loop-preserved : goal.loop-preserved
 loop-preserved g c =
@@ -76,13 +76,13 @@ loop-preserved g c =
           let n = length c.loop.shelf in
           let migrated = subst (IsNextMigrated c.loop.shelf c.loop.below (names n)) c.in-Some.is (c.in_ok-next.ensures.exact (names n) (others n) (i.unchanged.stands n ∙ from n)) in
           come-next names others _ _ c.loop.counter c.loop.shelf c.push.new.self c.loop.below next.digest c.loop.limits.items c.push_reserved.new.self.items c.loop.digest c.in_ok-digest.digest next.level put next.limits
-          i.levels same right (i.come names others from to) migrated c.in_ok-digest.ensures.free c.store.ensures.leaves.others (λ s held right. subst (HoldsIn _ (s ++ put ∷ [])) (sym c.in_ok-digest.ensures.digest) (c.in_ok-digest.ensures.saved.next s held right)) after c.push_reserved.ensures.items;
-      to_rest = λ others to. rest-more others _ _ c.loop.counter put.level level c.store.ensures.leaves.others (i.to_rest others to);
-      whole = λ others to. leaves-more others ((g.G.Folder.state c.loop.to).stands) _ _ _ put c.loop.digest (i.to_rest others to put.level (omega (arith, level))) (i.whole others to) c.store.ensures.leaves.crash;
+          i.levels same right (i.come names others from to) migrated c.in_ok-digest.ensures.free c.store.ensures.outcome.leaves.others (λ s held right. subst (HoldsIn _ (s ++ put ∷ [])) (sym c.in_ok-digest.ensures.outcome.digest.1) (c.in_ok-digest.ensures.outcome.saved.next s held right)) after c.push_reserved.ensures.items;
+      to_rest = λ others to. rest-more others _ _ c.loop.counter put.level level c.store.ensures.outcome.leaves.others (i.to_rest others to);
+      whole = λ others to. leaves-more others ((g.G.Folder.state c.loop.to).stands) _ _ _ put c.loop.digest (i.to_rest others to put.level (omega (arith, level))) (i.whole others to) c.store.ensures.outcome.leaves.crash;
       kept = λ n bytes is. c.store.ensures.kept n bytes (i.kept n bytes is);
-      kept_still = λ n o h. c.store.ensures.leaves.still n o (i.kept_still n o h);
+      kept_still = λ n o h. c.store.ensures.outcome.leaves.still n o (i.kept_still n o h);
       from_refused = c.in_ok-next.ensures.reads.refused ∙ i.from_refused;
-      to_refused = c.in_ok-digest.ensures.refused ∙ i.to_refused;
+      to_refused = c.in_ok-digest.ensures.outcome.refused ∙ i.to_refused;
       unchanged = unchanged_then _ _ _ i.unchanged e.reads.unchanged;
     }
 
@@ -108,7 +108,7 @@ pub returns-in_err-digest-clause-refused : goal.returns-in_err-digest-clause-ref
 returns-in_err-digest-clause-refused g c =
     let i = c.loop.invariant in
     let p = err_from_is_err_and c.from_residual-in_err-digest.result c.from_residual-in_err-digest.ensures.1 in
-    rw (p.1, p.2) (either_second c.in_err-digest.field-0.0 _ _ _ _ _ c.in_err-digest.ensures.refused i.to_refused (c.in_ok-next.ensures.reads.refused ∙ i.from_refused))
+    rw (p.1, p.2) (either_second c.in_err-digest.field-0.0 _ _ _ _ _ c.in_err-digest.ensures.outcome.refused i.to_refused (c.in_ok-next.ensures.reads.refused ∙ i.from_refused))
 
 pub returns-in_err-limits-clause-refused : goal.returns-in_err-limits-clause-refused
 returns-in_err-limits-clause-refused g c =
@@ -129,7 +129,7 @@ returns-in_err-digest-clause-whole g c = λ others to.
     let same : put ≡ next.level = search rules in
     let right = subst (λ o. IfSome o (λ m. Consistent c.loop.shelf m.level)) c.in-Some.is c.in_ok-next.ensures.right in
     let level : put.level ≡ c.loop.counter = ap (λ (image : Image). image.level) same ∙ right.next ∙ i.levels in
-    leaves-more others ((g.G.Folder.state c.loop.to).stands) _ _ _ put c.loop.digest (i.to_rest others to put.level (omega (arith, level))) (i.whole others to) c.store.ensures.leaves.crash
+    leaves-more others ((g.G.Folder.state c.loop.to).stands) _ _ _ put c.loop.digest (i.to_rest others to put.level (omega (arith, level))) (i.whole others to) c.store.ensures.outcome.leaves.crash
 
 pub returns-in_err-digest-clause-named : goal.returns-in_err-digest-clause-named
 returns-in_err-digest-clause-named g c =

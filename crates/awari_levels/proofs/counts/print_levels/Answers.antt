@@ -12,9 +12,9 @@ pub loop-number-preserved : goal.loop-number-preserved
 loop-number-preserved g c =
     let i = c.loop-number.invariant in
     record {
-      unchanged = unchanged_then _ _ _ i.unchanged c.in-Ok.ensures.same;
+      unchanged = unchanged_then _ _ _ i.unchanged c.in_ok-numbers.ensures.same;
       lines = λ images says.
-          level-line c.args.json images c.loop-number.number c.in-Ok.numbers _ _ _ (c.in-Ok.ensures.said images (says_still c.args.source _ _ images i.unchanged.stands says)) (i.lines images says)
+          level-line c.args.json images c.loop-number.number c.in_ok-numbers.numbers _ _ _ (c.in_ok-numbers.ensures.said images (says_still c.args.source _ _ images i.unchanged.stands says)) (i.lines images says)
           (c.print_level.ensures c.if-not-print_level.false);
     }
 

@@ -20,7 +20,7 @@ loop-rank-init g c = record {
 pub loop-rank-preserved : goal.loop-rank-preserved
 loop-rank-preserved g c =
     let i = c.loop-rank.invariant in
-    let low : c.args.asked.level ≤ 24 = omega (arith, c.requires.level, c.requires.few) in
+    let low : c.args.asked.level ≤ 24 = omega (arith, c.requires.known, c.requires.few) in
     let inside : c.loop-rank.rank < size_of c.args.asked.level = omega (arith, c.loop-rank-test.true, c.size-rank-end.ensures.boards) in
     record {
       unchanged = unchanged_then _ _ _ i.unchanged (unchanged_then _ _ _ c.in_ok-entry.ensures.same c.in_ok-key.ensures.same);

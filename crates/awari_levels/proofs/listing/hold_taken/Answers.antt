@@ -43,7 +43,7 @@ loop-rank-preserved-in_default g c =
 pub loop-rank-preserved : goal.loop-rank-preserved
 loop-rank-preserved g c =
     let i = c.loop-rank.invariant in
-    let low : c.args.choice.asked.level ≤ 24 = omega (arith, c.requires.level, c.requires.few) in
+    let low : c.args.choice.asked.level ≤ 24 = omega (arith, c.requires.level.known, c.requires.level.few) in
     let inside : c.loop-rank.rank < size_of c.args.choice.asked.level = omega (arith, c.loop-rank-test.true, c.size-rank-end.ensures.boards) in
     let back : to_z w64 (of_z w64 c.in-Some.taken.key) ≡ c.in-Some.taken.key = search rules in
     let one : Held = record { number = to_z w64 (of_z w64 c.in-Some.taken.key); rank = c.loop-rank.rank } in

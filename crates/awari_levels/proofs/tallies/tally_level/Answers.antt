@@ -7,9 +7,9 @@ pub loop-rank-preserved : goal.loop-rank-preserved
 loop-rank-preserved g c =
     let i = c.loop-rank.invariant in
     record {
-      unchanged = unchanged_then _ _ _ i.unchanged c.in-Ok-read_entry.ensures.same;
-      tallied = tallied-more c.args.source _ _ c.args.level c.args.limit c.loop-rank.rank c.loop-rank.run c.read_entry.new.run c.loop-rank.tally c.add.new.tally c.in-Ok-read_entry.entry i.tallied i.unchanged.stands
-          c.in-Ok-read_entry.ensures.entry c.in-Ok-read_entry.ensures.run (c.add.ensures c.args.limit);
+      unchanged = unchanged_then _ _ _ i.unchanged c.in_ok-entry.ensures.same;
+      tallied = tallied-more c.args.source _ _ c.args.level c.args.limit c.loop-rank.rank c.loop-rank.run c.read_entry.new.run c.loop-rank.tally c.add.new.tally c.in_ok-entry.entry i.tallied i.unchanged.stands
+          c.in_ok-entry.ensures.entry c.in_ok-entry.ensures.run (c.add.ensures c.args.limit);
     }
 
 pub returns-clause-tallied : goal.returns-clause-tallied

@@ -12,8 +12,8 @@ is_due-requires-clause-fits g c = omega (arith, c.requires.every)
 
 pub returns-then-not-is_due-clause-stepped : goal.returns-then-not-is_due-clause-stepped
 returns-then-not-is_due-clause-stepped g c = λ images says found boards walked.
-    let low : c.args.choice.asked.level ≤ 24 = omega (arith, c.requires.level, c.requires.few) in
-    let (board, at) = some_entry images c.args.choice.asked.level c.args.rank c.in_ok-entry.entry (c.in_ok-entry.ensures.entry images says walked.run) low c.requires.rank in
+    let low : c.args.choice.asked.level ≤ 24 = omega (arith, c.requires.there.known, c.requires.there.few) in
+    let (board, at) = some_entry images c.args.choice.asked.level c.args.rank c.in_ok-entry.entry (c.in_ok-entry.ensures.entry images says walked.run) low c.requires.there.ranked in
     let after = says_still c.args.choice.asked.source _ _ images c.in_ok-entry.ensures.same.stands says in
     let key = c.in_ok-key.ensures.key images after walked.keys board at in
     let asked = c.passes-passes.ensures images board key at.entry in
@@ -26,8 +26,8 @@ returns-then-not-is_due-clause-stepped g c = λ images says found boards walked.
 
 pub returns-then-not-is_taken-clause-stepped : goal.returns-then-not-is_taken-clause-stepped
 returns-then-not-is_taken-clause-stepped g c = λ images says found boards walked.
-    let low : c.args.choice.asked.level ≤ 24 = omega (arith, c.requires.level, c.requires.few) in
-    let (board, at) = some_entry images c.args.choice.asked.level c.args.rank c.in_ok-entry.entry (c.in_ok-entry.ensures.entry images says walked.run) low c.requires.rank in
+    let low : c.args.choice.asked.level ≤ 24 = omega (arith, c.requires.there.known, c.requires.there.few) in
+    let (board, at) = some_entry images c.args.choice.asked.level c.args.rank c.in_ok-entry.entry (c.in_ok-entry.ensures.entry images says walked.run) low c.requires.there.ranked in
     let after = says_still c.args.choice.asked.source _ _ images c.in_ok-entry.ensures.same.stands says in
     let key = c.in_ok-key.ensures.key images after walked.keys board at in
     let asked = c.passes-passes.ensures images board key at.entry in
@@ -41,8 +41,8 @@ returns-then-not-is_taken-clause-stepped g c = λ images says found boards walke
 
 pub returns-in-Some-clause-stepped : goal.returns-in-Some-clause-stepped
 returns-in-Some-clause-stepped g c = λ images says found boards walked.
-    let low : c.args.choice.asked.level ≤ 24 = omega (arith, c.requires.level, c.requires.few) in
-    let (board, at) = some_entry images c.args.choice.asked.level c.args.rank c.in_ok-entry.entry (c.in_ok-entry.ensures.entry images says walked.run) low c.requires.rank in
+    let low : c.args.choice.asked.level ≤ 24 = omega (arith, c.requires.there.known, c.requires.there.few) in
+    let (board, at) = some_entry images c.args.choice.asked.level c.args.rank c.in_ok-entry.entry (c.in_ok-entry.ensures.entry images says walked.run) low c.requires.there.ranked in
     let after = says_still c.args.choice.asked.source _ _ images c.in_ok-entry.ensures.same.stands says in
     let key = c.in_ok-key.ensures.key images after walked.keys board at in
     let asked = c.passes-passes.ensures images board key at.entry in
@@ -60,8 +60,8 @@ returns-in-Some-clause-stepped g c = λ images says found boards walked.
 
 pub returns-in-None-clause-stepped : goal.returns-in-None-clause-stepped
 returns-in-None-clause-stepped g c = λ images says found boards walked.
-    let low : c.args.choice.asked.level ≤ 24 = omega (arith, c.requires.level, c.requires.few) in
-    let (board, at) = some_entry images c.args.choice.asked.level c.args.rank c.in_ok-entry.entry (c.in_ok-entry.ensures.entry images says walked.run) low c.requires.rank in
+    let low : c.args.choice.asked.level ≤ 24 = omega (arith, c.requires.there.known, c.requires.there.few) in
+    let (board, at) = some_entry images c.args.choice.asked.level c.args.rank c.in_ok-entry.entry (c.in_ok-entry.ensures.entry images says walked.run) low c.requires.there.ranked in
     let after = says_still c.args.choice.asked.source _ _ images c.in_ok-entry.ensures.same.stands says in
     let key = c.in_ok-key.ensures.key images after walked.keys board at in
     let asked = c.passes-passes.ensures images board key at.entry in

@@ -6,7 +6,7 @@ use Rattle.awari_pairs.proofs.tables.cell_of.Goals as goal
 
 pub returns-in-Some-clause-cell : goal.returns-in-Some-clause-cell
 returns-in-Some-clause-cell g c = λ images board says at.
-    let first_fits : FitsSigned w64 c.in-Ok.first = search rules in
-    let second_fits : FitsSigned w64 c.in-Ok-number_of.second = search rules in
-    cell-own images c.args.asked board _ _ c.in-Some.cell (to_z-of_z w64 c.in-Ok.first first_fits ∙ c.in-Ok.ensures.number images board says at)
-    (to_z-of_z w64 c.in-Ok-number_of.second second_fits ∙ c.in-Ok-number_of.ensures.number images board (says_still c.args.source _ _ images c.in-Ok.ensures.same.stands says) at) c.in-Some.ensures.cell
+    let first_fits : FitsSigned w64 c.in_ok-first.first = search rules in
+    let second_fits : FitsSigned w64 c.in_ok-second.second = search rules in
+    cell-own images c.args.asked board _ _ c.in-Some.cell (to_z-of_z w64 c.in_ok-first.first first_fits ∙ c.in_ok-first.ensures.number images board says at)
+    (to_z-of_z w64 c.in_ok-second.second second_fits ∙ c.in_ok-second.ensures.number images board (says_still c.args.source _ _ images c.in_ok-first.ensures.same.stands says) at) c.in-Some.ensures.cell

@@ -1,5 +1,7 @@
-use Rattle.std.proofs.Common.{◌<◌, ◌^◌, SFits, refl, rules, arith, w16}
+use Rattle.std.proofs.Common.{◌≡◌, ◌<◌, ◌^◌, SFits, Some, refl, rules, arith, subst, w16}
 use Rattle.std.proofs.lemmas.Int.{to_z-of_z}
+use Rattle.awari_board.specs.Rules.{IsLegal}
+use Rattle.awari_table.specs.Images.{table_of}
 use Rattle.awari_folder.proofs.States.{unchanged_then}
 use Rattle.awari_play.proofs.Following.{HasNone, best_line-end, under_way-more, left_of-more}
 use Rattle.awari_places.proofs.Playing.{known_more}
@@ -16,17 +18,20 @@ loop-outcome-smaller g c =
     let small : c.args.limit < 2 ^ 32 = omega (arith, c.ranges.limit.fits) in
     let open_still = c.in_default.ensures.none.0 refl in
     let shows = c.loop-outcome.invariant.shows in
-    left_of-more _ _ _ _ _ _ c.play_plan.ensures.board c.in-Ok.ensures.legal open_still.1 small shows (c.in-Ok.ensures.played _ _ shows)
+    let legal = subst (λ b. IsLegal b c.in_ok-pit.pit) c.board.ensures.shown c.in_ok-pit.ensures.legal in
+    left_of-more _ _ _ _ _ _ c.board.ensures.board legal open_still.1 small shows (c.play_pit.ensures _ _ shows)
 
 pub loop-outcome-preserved : goal.loop-outcome-preserved
 loop-outcome-preserved g c =
     let i = c.loop-outcome.invariant in
     let none : HasNone c.args.limit c.loop-outcome.game = λ s o shown out. let has = (c.in_default.ensures.some s o shown).1 out in cc in
-    let played = c.in-Ok.ensures.played _ _ i.shows in
+    let played = c.play_pit.ensures _ _ i.shows in
+    let legal = subst (λ b. IsLegal b c.in_ok-pit.pit) c.board.ensures.shown c.in_ok-pit.ensures.legal in
     record {
-      shows = rw (c.in_ok-push-in-Ok.ensures.items) played;
-      known = known_more _ _ _ _ _ _ i.shows played c.play_plan.ensures.board c.in-Ok.ensures.legal i.known;
+      shows = rw (c.in_ok-push.ensures.items) played;
+      known = known_more _ _ _ _ _ _ i.shows played c.board.ensures.board legal i.known;
       way = λ images says.
-          rw (c.in_ok-push-in-Ok.ensures.items) (under_way-more _ _ _ _ _ _ _ _ (i.way images says) c.play_plan.ensures.board c.in-Ok.ensures.legal (c.in-Ok.ensures.plan images (still_says _ _ _ images i.same.stands says)) none played);
-      same = unchanged_then _ _ _ i.same c.play_plan.ensures.same;
+          let planned = subst (λ b. (table_of images).plan b ≡ Some c.in_ok-pit.pit) c.board.ensures.shown (c.in_ok-pit.ensures.plan images (still_says _ _ _ images i.same.stands says)) in
+          rw (c.in_ok-push.ensures.items) (under_way-more _ _ _ _ _ _ _ _ (i.way images says) c.board.ensures.board legal planned none played);
+      same = unchanged_then _ _ _ i.same c.plan.ensures.same;
     }

@@ -2,7 +2,7 @@ use Rattle.awari_table.specs.Images.{table_of}
 use Rattle.awari_places.proofs.Playing.{due_at}
 use Rattle.awari_places.proofs.longest.due_pit.Goals as goal
 
-pub returns-in-Ok-clause-due : goal.returns-in-Ok-clause-due
-returns-in-Ok-clause-due g c = λ images says.
-    due_at (table_of images) c.args.board.now c.in-Ok.seen c.pit_by.result c.legal_pit.result (c.in-Ok.ensures.sees images says) (c.in-Ok.ensures.right images says) c.pit_by.ensures.favoured c.pit_by.ensures.other
+pub returns-clause-due : goal.returns-clause-due
+returns-clause-due g c = λ images says.
+    due_at (table_of images) c.args.board.now c.in_ok-seen.seen c.pit_by.result c.legal_pit.result (c.in_ok-seen.ensures.sees images says) (c.in_ok-seen.ensures.right images says) c.pit_by.ensures.favoured c.pit_by.ensures.other
     c.legal_pit.ensures.pit

@@ -11,5 +11,5 @@ returns-then-longest-clause-line g c = λ images says limit.
 
 pub returns-clause-line : goal.returns-clause-line
 returns-clause-line g c = λ images says limit.
-    subst (λ b. IsLineBy b images c.args.board c.in-Ok.line.moves.items) (sym c.if-longest.false)
-    (c.in-Ok.line.outcome, subst (λ n. IsBestLine (table_of images) n c.args.board c.in-Ok.line.moves.items c.in-Ok.line.outcome) limit (c.in-Ok.ensures.line images says))
+    subst (λ b. IsLineBy b images c.args.board c.in_ok-line.line.moves.items) (sym c.if-longest.false)
+    (c.in_ok-line.line.outcome, subst (λ n. IsBestLine (table_of images) n c.args.board c.in_ok-line.line.moves.items c.in_ok-line.line.outcome) limit (c.in_ok-line.ensures.line images says))

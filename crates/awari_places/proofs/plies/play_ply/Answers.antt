@@ -10,4 +10,4 @@ returns-clause-ply g c = λ images says board pits shows.
     let move = c.in-Ok.ensures.moved in
     let here = c.board.ensures.shown in
     told-ply images board pits _ _ _ _ _ _ c.args.game.now c.step.new.self shows (c.in-Ok-step.ensures.played board pits shows)
-    (move.captures ∙ ap (λ p. captured p c.args.pit) here) (to_z-of_z w16 _ fits ∙ c.running.ensures) (move.leaves ∙ ap (λ p. next_board p c.args.pit) here) (c.in-Ok-entry.ensures.entry images says)
+    (move.captures ∙ ap (λ p. captured p c.args.pit) here) (to_z-of_z w16 _ fits ∙ c.running.ensures) (move.leaves ∙ ap (λ p. next_board p c.args.pit) here) (c.in_ok-entry.ensures.entry images says)

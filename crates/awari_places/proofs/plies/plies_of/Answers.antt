@@ -11,9 +11,9 @@ loop-index-init g c =
     let empty : c.new-plies.result.items ≡ [] = search rules in
     record {
       shows = c.start-game.ensures;
-      known = known_start _ _ _ c.start-game.ensures c.requires.known;
+      known = known_start _ _ _ c.start-game.ensures c.requires.level.known;
       told = λ images says.
-          rw empty (told-start images c.args.board c.args.moves.now _ (subst (λ n. sum c.args.board < n) (sym (levels_said _ _ images says)) c.requires.known) c.start-game.ensures);
+          rw empty (told-start images c.args.board c.args.moves.now _ (subst (λ n. sum c.args.board < n) (sym (levels_said _ _ images says)) c.requires.level.known) c.start-game.ensures);
       same = unchanged _;
     }
 
@@ -27,13 +27,13 @@ loop-index-preserved g c =
     let inside = c.loop-index-test.true in
     let is = get_or_default _ _ _ _ inside in
     let legal = legal_next c.args.board c.args.moves.now _ _ _ c.requires.play.0 c.requires.play.1 inside is i.shows in
-    let played = c.in-Ok.ensures.played _ _ i.shows in
+    let played = c.in_ok-ply.ensures.played _ _ i.shows in
     record {
       shows = shows_more c.args.board c.args.moves.now _ _ _ inside is played;
       known = known_more _ _ _ _ _ _ i.shows played c.play_ply.ensures.board legal i.known;
       told = λ images says.
           let told = i.told images says in
-          let ply = c.in-Ok.ensures.ply images (still_says _ _ _ images i.same.stands says) _ _ told.shows in
-          rw (c.in_ok-push-in-Ok.ensures.items) (told-more images c.args.board c.args.moves.now _ _ _ _ _ _ inside is told ply (c.in-Ok.ensures.played _ _ told.shows) c.play_ply.ensures.board legal);
+          let ply = c.in_ok-ply.ensures.ply images (still_says _ _ _ images i.same.stands says) _ _ told.shows in
+          rw (c.in_ok-push.ensures.items) (told-more images c.args.board c.args.moves.now _ _ _ _ _ _ inside is told ply (c.in_ok-ply.ensures.played _ _ told.shows) c.play_ply.ensures.board legal);
       same = unchanged_then _ _ _ i.same c.play_ply.ensures.same;
     }

@@ -13,8 +13,8 @@ loop-worth-preserved g c =
     let inside = c.loop-worth-test.true in
     record {
       few = omega (arith, i.few, c.push.ensures.len);
-      worths = weighed-more _ _ c.args.worths.now c.loop-worth.worth-index _ _ inside (get_or_default _ _ _ _ inside) c.in-Ok.ensures.worth i.worths c.push.ensures.items;
+      worths = weighed-more _ _ c.args.worths.now c.loop-worth.worth-index _ _ inside (get_or_default _ _ _ _ inside) c.in_ok-weighed_move.ensures.worth i.worths c.push.ensures.items;
       replies = λ images says.
-          rw c.push.ensures.items (All-push (IsReplied c.args.asked images c.args.board.now) _ _ (i.replies images says) (c.in-Ok.ensures.replies images (still_says _ _ _ images i.same.stands says)));
+          rw c.push.ensures.items (All-push (IsReplied c.args.asked images c.args.board.now) _ _ (i.replies images says) (c.in_ok-weighed_move.ensures.replies images (still_says _ _ _ images i.same.stands says)));
       same = unchanged_then _ _ _ i.same c.weighed_move.ensures.same;
     }

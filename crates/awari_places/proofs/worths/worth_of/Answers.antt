@@ -1,8 +1,8 @@
 use Rattle.awari_places.proofs.worths.worth_of.Goals as goal
 
-pub returns-in-Ok-clause-worth : goal.returns-in-Ok-clause-worth
-returns-in-Ok-clause-worth g c = λ images says.
-    let (next, move, value, plies) = c.in-Ok.ensures.reached images says in
+pub returns-clause-worth : goal.returns-clause-worth
+returns-clause-worth g c = λ images says.
+    let (next, move, value, plies) = c.in_ok-reached.ensures.reached images says in
     record {
       pit = c.worth_by.ensures.pit;
       worth = record {

@@ -29,10 +29,10 @@ loop-pit-preserved g c =
     ) in
     record {
       few = search rules;
-      legal = rw c.push.ensures.items (All-push (λ w. IsLegal c.args.board.now w.pit) _ _ i.legal (subst (IsLegal c.args.board.now) (sym c.in-Ok.ensures.pit) legal));
+      legal = rw c.push.ensures.items (All-push (λ w. IsLegal c.args.board.now w.pit) _ _ i.legal (subst (IsLegal c.args.board.now) (sym c.in_ok-worth_of.ensures.pit) legal));
       each = λ images says.
           rw c.push.ensures.items (worths-more _ _ _ _ _ _ _ c.loop-pit-test.true (get_or_default _ _ _ _ c.loop-pit-test.true) (i.each images says)
-          (c.in-Ok.ensures.worth images (still_says _ _ _ images i.same.stands says)));
+          (c.in_ok-worth_of.ensures.worth images (still_says _ _ _ images i.same.stands says)));
       same = unchanged_then _ _ _ i.same c.worth_of.ensures.same;
     }
 

@@ -9,7 +9,7 @@ pub loop-rank-preserved : goal.loop-rank-preserved
 loop-rank-preserved c =
     let boards = ap size_of c.levels.ensures.levels in
     let inside : c.loop-rank.rank < length c.loop-rank.entries.items =
-    omega (arith, boards, c.loop-rank.invariant.nearer.size, c.size-rank-end.ensures.boards, c.requires.sized, c.loop-rank-test.true) in
+    omega (arith, boards, c.loop-rank.invariant.nearer.size, c.size-rank-end.ensures.boards, c.requires.level.sized, c.loop-rank-test.true) in
     let lowers = c.lower_board.ensures in
     elim c.if-lower_board.branch [
       | then-lower_board w ↦

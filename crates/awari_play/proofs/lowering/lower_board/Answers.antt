@@ -10,7 +10,7 @@ use Rattle.awari_play.proofs.lowering.lower_board.Goals as goal
 
 pub by_moves-dist-requires-clause-own : goal.by_moves-dist-requires-clause-own
 by_moves-dist-requires-clause-own c =
-    let inside : c.args.rank < length c.args.entries.now.items = omega (arith, c.requires.sized, c.requires.below) in
+    let inside : c.args.rank < length c.args.entries.now.items = omega (arith, c.requires.level.sized, c.requires.below) in
     let image : Image = record { level = length c.args.shelf.now; limit = 0; entries = c.args.entries.now.items } in
     let found = c.index-own.ensures ∙ get_or_default c.args.entries.now.items c.args.rank c.index-own.result.now no_entry inside in
     found ∙ sym (entry_of-rank c.args.shelf.now image c.unrank-board.result c.args.rank (c.unrank-board.ensures.stones ∙ c.levels.ensures.levels) c.unrank-board.ensures.rank)
@@ -18,7 +18,7 @@ by_moves-dist-requires-clause-own c =
 
 pub returns : goal.returns
 returns c =
-    let inside : c.args.rank < length c.args.entries.now.items = omega (arith, c.requires.sized, c.requires.below) in
+    let inside : c.args.rank < length c.args.entries.now.items = omega (arith, c.requires.level.sized, c.requires.below) in
     let found = c.index-own.ensures ∙ get_or_default c.args.entries.now.items c.args.rank c.index-own.result.now no_entry inside in
     let own = ap (λ (e : Entry). e.dist) found in
     let far = c.if-own-near.false in
