@@ -1,4 +1,4 @@
--- What a table has to say of each board: the rules V1 to V6, and a table that keeps them.
+-- What a table has to say of each board: the rules V1 to V6.
 use Rattle.std.specs.Prelude.{◌≡◌, ℕ, ◌+◌, ◌<◌, ◌≤◌, ◌==◌, if◌then◌else◌, ◌⊎◌, List, sum, ℤ, pos, neg_ℤ, ◌-ℤ◌, ◌≤ℤ◌, ◌<ℤ◌, Option, Some, None, IfSome}
 use Rattle.awari_board.specs.Rules.{IsMove, IsLegal, IsEnd, IsEnded}
 

@@ -1,5 +1,5 @@
 -- Which rule a board breaks first, and that at most one fault is due.
-use Rattle.std.proofs.Common.{◌≡◌, ◌↔◌, ℕ, ◌<◌, List, [], ◌∷◌, ◌++◌, Option, Some, None, IsNone, IfSome, inl, inr, refl, sym, subst, ◌∙◌, arith}
+use Rattle.std.proofs.Common.{◌≡◌, ◌↔◌, ℕ, ◌<◌, List, [], ◌∷◌, ◌++◌, Option, Some, None, IsNone, IfSome, Bool, IsTrue, MatchOption, inl, inr, refl, sym, subst, ◌∙◌, arith}
 use Rattle.std.proofs.lemmas.Bool.{false≢true, cases_lt}
 use Rattle.awari_rank.specs.Rank.{size_of}
 use Rattle.awari_rank.proofs.Ranking.{rank_fixes}
@@ -12,33 +12,31 @@ use Rattle.awari_verify.specs.declared.rules.Rule.{Rule}
 use Rattle.awari_verify.specs.declared.rules.Rule.TheVariants.{V1, V2, V3, V4, V5, V6, V7}
 use Rattle.awari_verify.specs.declared.verdicts.VerifyFault.{VerifyFault}
 use Rattle.awari_verify.specs.declared.verdicts.VerifyFault.TheVariants.{WrongLevel, WrongSize, Refused, Memory}
-use Rattle.awari_verify.specs.FirstFailure.{BreaksFirst, IsFirst, IsRefusal, Nothing}
+use Rattle.awari_verify.specs.FirstFailure.{BreaksFirst, IsFirst, IsRefusal}
 use Rattle.awari_verify.proofs.LevelLemmas.{Consistent-right}
 use Rattle.awari_verify.specs.VerifyFault.{number_of, IsDueBy, IsFaultAfter, IsShaped, IsWrongLimit}
 
--- V1 to V5 are kept, and V6 too or not
-pub right_with : (Asked : Table → List ℕ → Type 0) (t : Table) (p : List ℕ) → IsRightBy Nothing t p → Asked t p → IsRightBy Asked t p
-right_with Asked t p r more = record {
+-- a test of V6 stands for it
+breaks_by : (Asked : Table → List ℕ → Type 0) (t : Table) (p : List ℕ) (test : Bool) (rule : Rule) → (Asked t p → IsTrue test) → BreaksFirst (λ u q. IsTrue test) t p rule → BreaksFirst Asked t p rule
+breaks_by Asked t p test V1 kept b = b
+breaks_by Asked t p test V2 kept b = b
+breaks_by Asked t p test V3 kept b = b
+breaks_by Asked t p test V4 kept b = b
+breaks_by Asked t p test V5 kept b = b
+breaks_by Asked t p test V6 kept b = (b.0, b.1, b.2, b.3, b.4, λ asked. b.5 (kept asked))
+breaks_by Asked t p test V7 kept b = b
+
+pub judged_by : (Asked : Table → List ℕ → Type 0) (t : Table) (p : List ℕ) (test : Bool) (broken : Option Rule) → IsTrue test ↔ Asked t p
+    → MatchOption broken (IsRightBy (λ u q. IsTrue test) t p) (BreaksFirst (λ u q. IsTrue test) t p) → MatchOption broken (IsRightBy Asked t p) (BreaksFirst Asked t p)
+judged_by Asked t p test None same r = record {
   in_range = r.in_range;
   ends = r.ends;
   has_plan = r.has_plan;
   no_more = r.no_more;
   plan_gains = r.plan_gains;
-  distances = more;
+  distances = same.0 r.distances;
 }
-
-pub breaks_v6 : (Asked : Table → List ℕ → Type 0) (t : Table) (p : List ℕ) → IsRightBy Nothing t p → (Asked t p → ⊥) → BreaksFirst Asked t p V6
-breaks_v6 Asked t p r wrong = (r.in_range, r.ends, r.has_plan, r.no_more, r.plan_gains, wrong)
-
--- which of V1 to V5 is broken first does not rest on V6
-pub breaks_early : (Asked : Table → List ℕ → Type 0) (t : Table) (p : List ℕ) (rule : Rule) → BreaksFirst Nothing t p rule → BreaksFirst Asked t p rule
-breaks_early Asked t p V1 b = b
-breaks_early Asked t p V2 b = b
-breaks_early Asked t p V3 b = b
-breaks_early Asked t p V4 b = b
-breaks_early Asked t p V5 b = b
-breaks_early Asked t p V6 b = absurd (b.5 tt)
-breaks_early Asked t p V7 b = b
+judged_by Asked t p test (Some rule) same b = breaks_by Asked t p test rule same.1 b
 
 -- a board that breaks a rule is not right
 pub wrong_from_breaks : (Asked : Table → List ℕ → Type 0) (t : Table) (p : List ℕ) (rule : Rule) → BreaksFirst Asked t p rule → IsRightBy Asked t p → ⊥
@@ -56,7 +54,7 @@ inconsistent_from_fault Asked shelf image WrongLevel f c = f (c.next, c.low)
 inconsistent_from_fault Asked shelf image WrongSize f c = f.2 c.sized
 inconsistent_from_fault Asked shelf image (Refused rank rule) f c =
     elim f.1 [
-      | inl refusal ↦ wrong_from_breaks Asked _ refusal.board rule refusal.breaks (c.right refusal.board refusal.is_board refusal.stones)
+      | inl refusal ↦ wrong_from_breaks Asked _ refusal.breach.board rule refusal.breach.breaks (c.right refusal.breach.board refusal.breach.is_board refusal.breach.stones)
       | inr limit ↦ limit.wrong c.limited
     ]
 inconsistent_from_fault Asked shelf image Memory f c = f
@@ -116,9 +114,9 @@ one_rule Asked t p V7 V7 a b = absurd a
 -- no board before a refused one is refused
 not_before : {Asked : Table → List ℕ → Type 0} {t : Table} {level low high rank rank' : ℕ} {r r' : Rule} → IsRefusal Asked t level low high rank r → IsRefusal Asked t level low high rank' r' → rank < rank' → ⊥
 not_before {Asked} {t} a b before =
-    let ranked = a.ranked in
+    let ranked = a.breach.ranked in
     let above = a.above in
-    wrong_from_breaks Asked t a.board _ a.breaks (b.before a.board a.is_board a.stones (omega arith) (omega arith))
+    wrong_from_breaks Asked t a.breach.board _ a.breach.breaks (b.before a.breach.board a.breach.is_board a.breach.stones (omega arith) (omega arith))
 
 same_rank : {Asked : Table → List ℕ → Type 0} {t : Table} {level low high rank rank' : ℕ} {r r' : Rule} → IsRefusal Asked t level low high rank r → IsRefusal Asked t level low high rank' r' → rank ≡ rank'
 same_rank {rank = rank} {rank' = rank'} a b =
@@ -133,17 +131,17 @@ same_rank {rank = rank} {rank' = rank'} a b =
 same_rule : {Asked : Table → List ℕ → Type 0} {t : Table} {level low high rank rank' : ℕ} {r r' : Rule} → IsRefusal Asked t level low high rank r → IsRefusal Asked t level low high rank' r' → r ≡ r'
 same_rule {Asked} {t} {r = r} {r' = r'} a b =
     let ranks = same_rank a b in
-    let boards : b.board ≡ a.board
-    = rank_fixes b.board a.board b.is_board.pits a.is_board.pits (b.stones ∙ sym a.stones) (b.ranked ∙ sym ranks ∙ sym a.ranked)
+    let boards : b.breach.board ≡ a.breach.board
+    = rank_fixes b.breach.board a.breach.board b.breach.is_board.pits a.breach.is_board.pits (b.breach.stones ∙ sym a.breach.stones) (b.breach.ranked ∙ sym ranks ∙ sym a.breach.ranked)
     in
-    one_rule Asked t a.board r r' a.breaks (subst (λ (p : List ℕ). BreaksFirst Asked t p r') boards b.breaks)
+    one_rule Asked t a.breach.board r r' a.breach.breaks (subst (λ (p : List ℕ). BreaksFirst Asked t p r') boards b.breach.breaks)
 
 -- where a board is refused, the limit is not looked at
 not_limit : {Asked : Table → List ℕ → Type 0} {shelf : List Image} {image : Image} {rank rank' : ℕ} {r r' : Rule} → IsRefusal Asked (table_of (shelf ++ image ∷ [])) image.level 0 (size_of image.level) rank r → IsWrongLimit Asked shelf image rank' r' → ⊥
 not_limit {Asked} {shelf} {image} a w =
-    let ranked = a.ranked in
+    let ranked = a.breach.ranked in
     let below = a.below in
-    wrong_from_breaks Asked _ a.board _ a.breaks (w.right a.board a.is_board a.stones (omega arith) (omega arith))
+    wrong_from_breaks Asked _ a.breach.board _ a.breach.breaks (w.right a.breach.board a.breach.is_board a.breach.stones (omega arith) (omega arith))
 
 pub one_due : (Asked : Table → List ℕ → Type 0) (shelf : List Image) (image : Image) (fault other : VerifyFault) → IsDueBy Asked shelf image fault → IsDueBy Asked shelf image other → fault ≡ other
 one_due Asked shelf image WrongLevel WrongLevel a b = refl

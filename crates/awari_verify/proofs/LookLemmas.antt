@@ -3,8 +3,8 @@ use Rattle.std.proofs.Common.{◌≡◌, ◌⊎◌, ℕ, ◌<◌, ◌≤◌, nat
 use Rattle.std.proofs.lemmas.Bool.Decides.{nat_tests}
 use Rattle.awari_board.specs.Rules.{IsBoard}
 use Rattle.awari_table.specs.Certificate.{Table, DistancesAreLeast}
-use Rattle.awari_verify.specs.FirstFailure.{RightBetween, IsRefusal}
-use Rattle.awari_verify.specs.Pieces.{refusal_at, refusal_of, IsBreach, Looks}
+use Rattle.awari_verify.specs.FirstFailure.{RightBetween, IsBreach, IsRefusal}
+use Rattle.awari_verify.specs.Pieces.{refusal_at, refusal_of, Looks}
 use Rattle.awari_verify.specs.declared.pieces.Nearest.{Nearest}
 use Rattle.awari_verify.specs.declared.rules.Rule.{Rule}
 
@@ -70,17 +70,13 @@ pub Looks-all : (t : Table) (level boards : ℕ) (In : List ℕ → Type 0) (s :
     → MatchOption (refusal_of s) (RightBetween DistancesAreLeast t level 0 boards) (λ r. IsRefusal DistancesAreLeast t level 0 boards r.rank r.rule)
 Looks-all t level boards In s looks all = go s.rule (looks.known boards refl)
   where
-    go : (rule : Option Rule) → MatchOption rule (s.rank ≡ boards) (λ rule. (s.rank < boards) × IsBreach t level s.rank rule)
+    go : (rule : Option Rule) → MatchOption rule (s.rank ≡ boards) (λ rule. (s.rank < boards) × IsBreach DistancesAreLeast t level s.rank rule)
         → MatchOption (refusal_at s.rank rule) (RightBetween DistancesAreLeast t level 0 boards) (λ r. IsRefusal DistancesAreLeast t level 0 boards r.rank r.rule)
     go None end = λ p board stones ge lt. looks.right p board stones (all p board stones) (omega (arith, end, lt))
     go (Some rule) known =
-        let breach = known.1 in record {
+        record {
           above = omega arith;
           below = known.0;
           before = λ p board stones ge lt. looks.right p board stones (all p board stones) lt;
-          board = breach.board;
-          is_board = breach.is_board;
-          stones = breach.stones;
-          ranked = breach.ranked;
-          breaks = breach.breaks;
+          breach = known.1;
         }

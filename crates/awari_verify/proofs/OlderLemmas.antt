@@ -1,15 +1,17 @@
 -- The older V6 at what is seen of a board is that of the table; and at most one fault is due by the older rules.
-use Rattle.std.proofs.Common.{◌≡◌, ◌↔◌, ◌⊎◌, ℕ, ◌<◌, List, Some, IfSome, All, pos, ◌<ℤ◌, inl, inr, sym, ◌∙◌, arith}
+use Rattle.std.proofs.Common.{◌≡◌, ◌↔◌, ◌⊎◌, ℕ, ◌<◌, List, Bool, IsTrue, Option, Some, MatchOption, IfSome, All, pos, ◌<ℤ◌, inl, inr, sym, ◌∙◌, arith}
 use Rattle.std.proofs.lemmas.Bool.{cases_lt}
 use Rattle.awari_board.specs.Rules.{IsMove}
-use Rattle.awari_table.specs.Certificate.{Table}
+use Rattle.awari_table.specs.Certificate.{Table, IsRightBy}
 use Rattle.awari_table.specs.declared.images.Image.{Image}
 use Rattle.awari_theory.specs.Older.{ConsistentOld, DistancesFall}
+use Rattle.awari_verify.specs.FirstFailure.{BreaksFirst}
+use Rattle.awari_verify.specs.declared.rules.Rule.{Rule}
 use Rattle.awari_verify.specs.declared.rules.Seen.{Seen}
 use Rattle.awari_verify.specs.Sights.{Sees, IsNearer}
 use Rattle.awari_verify.specs.Older.{IsDueOld, KeepsFalling}
 use Rattle.awari_verify.specs.declared.verdicts.VerifyFault.{VerifyFault}
-use Rattle.awari_verify.proofs.FaultLemmas.{inconsistent_from_fault, one_due}
+use Rattle.awari_verify.proofs.FaultLemmas.{inconsistent_from_fault, judged_by, one_due}
 use Rattle.awari_verify.proofs.SightLemmas.{none_from_open, open_from_none, moves_any, nearer-says, winning_any}
 
 losing_any : (t : Table) (p : List ℕ) (s : Seen) → Sees t p s → All (λ o. IfSome o (λ m. IsNearer m s.entry.dist)) s.moves ↔ ((x : ℕ) (q : List ℕ) → IsMove p x 0 q → t.dist q < s.entry.dist)
@@ -39,6 +41,11 @@ falling_to t p s h k =
 
 pub falling-iff : (t : Table) (p : List ℕ) (s : Seen) → Sees t p s → KeepsFalling s ↔ DistancesFall t p
 falling-iff t p s h = (falling_from t p s h, falling_to t p s h)
+
+pub falls_by : (t : Table) (p : List ℕ) (s : Seen) (test : Bool) (broken : Option Rule) → Sees t p s → IsTrue test ↔ KeepsFalling s
+    → MatchOption broken (IsRightBy (λ u q. IsTrue test) t p) (BreaksFirst (λ u q. IsTrue test) t p) → MatchOption broken (IsRightBy DistancesFall t p) (BreaksFirst DistancesFall t p)
+falls_by t p s test broken h told =
+    let same = falling-iff t p s h in judged_by DistancesFall t p test broken (λ kept. same.0 (told.0 kept), λ falls. told.1 (same.1 falls))
 
 pub one_old_due : (shelf : List Image) (image : Image) (fault other : VerifyFault) → IsDueOld shelf image fault → IsDueOld shelf image other → fault ≡ other
 one_old_due shelf image fault other (inl a) (inl b) = a.1 ∙ sym b.1

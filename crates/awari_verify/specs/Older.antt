@@ -9,14 +9,10 @@ use Rattle.awari_verify.specs.declared.verdicts.VerifyFault.TheVariants.{WrongLe
 use Rattle.awari_verify.specs.Sights.{IsNearer, KeepsEven, KeepsWinning}
 use Rattle.awari_verify.specs.VerifyFault.{IsDueBy}
 
-abbrev pub KeepsUneven : Seen → Type 0
-KeepsUneven s = IsNone s.end → s.entry.value ≢ pos 0 → 1 ≤ s.entry.dist
-
-abbrev pub KeepsLosing : Seen → Type 0
-KeepsLosing s = s.entry.value <ℤ pos 0 → All (λ o. IfSome o (λ m. IsNearer m s.entry.dist)) s.moves
-
 abbrev pub KeepsFalling : Seen → Type 0
-KeepsFalling s = KeepsEven s × KeepsUneven s × KeepsWinning s × KeepsLosing s
+KeepsFalling s =
+    KeepsEven s × (IsNone s.end → s.entry.value ≢ pos 0 → 1 ≤ s.entry.dist) × KeepsWinning s
+    × (s.entry.value <ℤ pos 0 → All (λ o. IfSome o (λ m. IsNearer m s.entry.dist)) s.moves)
 
 -- the fault of the image over the shelf: by these rules a level above 12 is none
 abbrev pub IsDueOld : List Image → Image → VerifyFault → Type 0

@@ -4,7 +4,7 @@ use Rattle.awari_board.specs.Rules.{IsBoard, own_stones}
 use Rattle.awari_rank.specs.Fillings.{none}
 use Rattle.awari_rank.specs.Rank.{rank_of, size_of}
 use Rattle.awari_table.specs.Certificate.{Table, DistancesAreLeast, IsRight}
-use Rattle.awari_verify.specs.FirstFailure.{BreaksFirst}
+use Rattle.awari_verify.specs.FirstFailure.{IsBreach}
 use Rattle.awari_verify.specs.declared.rules.Rule.{Rule}
 use Rattle.awari_verify.specs.declared.pieces.Nearest.{Nearest}
 use Rattle.awari_verify.specs.declared.shares.Share.{Share}
@@ -41,17 +41,9 @@ InRun first count p = (first ≤ rank_of p) × (rank_of p < first + count)
 abbrev pub InTile : ℕ → ℕ → ℕ → List ℕ → Type 0
 InTile others first count p = (sum (drop 6 p) ≡ others) × (first ≤ other_filling p) × (other_filling p < first + count)
 
--- a board of the level with this rank breaks this rule first
-pub record IsBreach (t : Table) (level rank : ℕ) (rule : Rule) : Type 0 where
-  pub board : List ℕ
-  pub is_board : IsBoard board
-  pub stones : sum board ≡ level
-  pub ranked : rank_of board ≡ rank
-  pub breaks : BreaksFirst DistancesAreLeast t board rule
-
 -- the rank is the end while no breach is known, and else that of one before the end
 abbrev pub IsKnown : Table → ℕ → ℕ → Nearest → Type 0
-IsKnown t level end nearest = MatchOption nearest.rule (nearest.rank ≡ end) (λ rule. (nearest.rank < end) × IsBreach t level nearest.rank rule)
+IsKnown t level end nearest = MatchOption nearest.rule (nearest.rank ≡ end) (λ rule. (nearest.rank < end) × IsBreach DistancesAreLeast t level nearest.rank rule)
 
 -- the boards of the level that are in here were looked at: those before the nearest breach are right
 pub record Looks (t : Table) (level : ℕ) (In : List ℕ → Type 0) (old new : Nearest) : Type 0 where

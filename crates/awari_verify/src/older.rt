@@ -1,19 +1,18 @@
 //! The older rules, by which distances fall along the plans and need not be the least.
 
-ghost use Rattle.std.specs.Prelude.{◌≡◌, ◌↔◌, ◌++◌, ◌∷◌, [], ℕ, List, IsOk, IfErr, IsTrue, MatchOption};
+ghost use Rattle.std.specs.Prelude.{◌≡◌, ◌≢◌, ◌↔◌, ◌≤◌, ◌<ℤ◌, ◌++◌, ◌∷◌, [], pos, List, All, IsOk, IfErr, IfSome, IsNone, IsTrue};
 ghost use Rattle.awari_rank.specs.Rank.{size_of};
 ghost use Rattle.awari_table.specs.declared.images.Image.{Image};
-ghost use Rattle.awari_table.specs.Certificate.{Table, IsRightBy};
 ghost use Rattle.awari_table.specs.Images.{table_of};
 ghost use Rattle.awari_theory.specs.Older.{ConsistentOld, DistancesFall};
 ghost use Rattle.awari_verify.specs.declared.verdicts.VerifyFault.{VerifyFault};
-ghost use Rattle.awari_verify.specs.FirstFailure.{BreaksFirst, IsFirst};
-ghost use Rattle.awari_verify.specs.Older.{IsDueOld, KeepsFalling, KeepsLosing, KeepsUneven};
-ghost use Rattle.awari_verify.specs.Sights.{Sees};
+ghost use Rattle.awari_verify.specs.FirstFailure.{IsFirst};
+ghost use Rattle.awari_verify.specs.Older.{IsDueOld, KeepsFalling};
+ghost use Rattle.awari_verify.specs.Sights.{IsNearer};
 ghost use Rattle.awari_verify.specs.VerifyFault.{IsShaped};
 
 use crate::pieces::following;
-use crate::rules::{Rule, Seen, first_broken_of_five, is_nearer, keeps_even, keeps_winning};
+use crate::rules::{Rule, Seen, first_broken, is_nearer, keeps_even, keeps_winning};
 use crate::search::Refusal;
 use crate::sights::see;
 use crate::verdicts::{VerifyFault, boards_of, fault_after};
@@ -55,23 +54,10 @@ fn old_refusal(shelf: &Shelf, image: &Image, boards: u32) -> Option<Refusal>
     let mut seen = Seen::nothing();
     for rank in 0..boards {
         see(shelf, image, &board, rank, &mut seen);
-        if let Some(rule) = old_broken_rule(&seen) {
+        if let Some(rule) = first_broken(&seen, keeps_falling(&seen)) {
             return Some(Refusal { rank, rule });
         }
         board = following(&board);
-    }
-    None
-}
-
-/// The first of V1 to V6 that the board breaks.
-fn old_broken_rule(seen: &Seen) -> Option<Rule>
-    ensures { (t : Table) (p : List ℕ) → Sees t p seen.now → MatchOption result (IsRightBy DistancesFall t p) (BreaksFirst DistancesFall t p) }
-{
-    if let Some(rule) = first_broken_of_five(seen) {
-        return Some(rule);
-    }
-    if !keeps_falling(seen) {
-        return Some(Rule::V6);
     }
     None
 }
@@ -83,13 +69,13 @@ fn keeps_falling(seen: &Seen) -> bool
 }
 
 fn keeps_uneven(seen: &Seen) -> bool
-    ensures { IsTrue result ↔ KeepsUneven seen.now }
+    ensures { IsTrue result ↔ (IsNone seen.now.end → seen.now.entry.value ≢ pos 0 → 1 ≤ seen.now.entry.dist) }
 {
     seen.end.is_some() || seen.entry.value == 0 || seen.entry.dist > 0
 }
 
 fn keeps_losing(seen: &Seen) -> bool
-    ensures { IsTrue result ↔ KeepsLosing seen.now }
+    ensures { IsTrue result ↔ (seen.now.entry.value <ℤ pos 0 → All (λ o. IfSome o (λ m. IsNearer m seen.now.entry.dist)) seen.now.moves) }
 {
     if seen.entry.value >= 0 {
         return true;

@@ -66,13 +66,8 @@ impl Nearest {
     pub fn refusal(self) -> Option<Refusal>
         ensures { result ≡ refusal_of self }
     {
-        match self.rule {
-            Some(rule) => Some(Refusal {
-                rank: self.rank,
-                rule,
-            }),
-            None => None,
-        }
+        let rank = self.rank;
+        self.rule.map(|rule| Refusal { rank, rule })
     }
 }
 

@@ -4,7 +4,7 @@ ghost use Rattle.std.specs.Prelude.{◌≡◌, ◌≤◌, ◌↔◌, ℕ, List, 
 ghost use Rattle.awari_table.specs.Certificate.{DistancesAreLeast, Table, IsRight, IsRightBy};
 ghost use Rattle.awari_table.specs.Reached.{gain_of};
 ghost use Rattle.awari_verify.specs.Sights.{Sees, planned_of, IsNearer, KeepsRange, KeepsEnd, KeepsPlan, KeepsGain, KeepsPlanGain, KeepsEven, KeepsWinning, GainsJustIn, KeepsWon, KeepsLost, KeepsLeast};
-ghost use Rattle.awari_verify.specs.FirstFailure.{BreaksFirst, Nothing};
+ghost use Rattle.awari_verify.specs.FirstFailure.{BreaksFirst};
 
 use awari_board::SIDE;
 use awari_table::{Entry, Reached};
@@ -80,19 +80,14 @@ impl Seen {
 pub fn first_broken_rule(seen: &Seen) -> Option<Rule>
     ensures { (t : Table) (p : List ℕ) → Sees t p seen.now → MatchOption result (IsRight t p) (BreaksFirst DistancesAreLeast t p) }
 {
-    if let Some(rule) = first_broken_of_five(seen) {
-        return Some(rule);
-    }
-    if !keeps_least(seen) {
-        return Some(Rule::V6);
-    }
-    None
+    first_broken(seen, keeps_least(seen))
 }
 
-/// The first of V1 to V5 that the board breaks.
+/// The first of V1 to V6 that the board breaks, where it is told whether V6 is kept.
 #[inline(always)]
-pub fn first_broken_of_five(seen: &Seen) -> Option<Rule>
-    ensures { (t : Table) (p : List ℕ) → Sees t p seen.now → MatchOption result (IsRightBy Nothing t p) (BreaksFirst Nothing t p) }
+pub fn first_broken(seen: &Seen, distance: bool) -> Option<Rule>
+    ensures { (t : Table) (p : List ℕ) → Sees t p seen.now
+        → MatchOption result (IsRightBy (λ u q. IsTrue distance) t p) (BreaksFirst (λ u q. IsTrue distance) t p) }
 {
     if !keeps_range(seen) {
         return Some(Rule::V1);
@@ -108,6 +103,9 @@ pub fn first_broken_of_five(seen: &Seen) -> Option<Rule>
     }
     if !keeps_plan_gain(seen) {
         return Some(Rule::V5);
+    }
+    if !distance {
+        return Some(Rule::V6);
     }
     None
 }

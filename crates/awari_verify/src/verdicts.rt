@@ -119,13 +119,11 @@ pub fn fault_after(image: &Image, first: Option<Refusal>) -> Option<VerifyFault>
 {
     match first {
         Some(Refusal { rank, rule }) => Some(VerifyFault::Refused { rank, rule }),
-        None if image.limit != image.entries.greatest_dist() => {
-            Some(VerifyFault::Refused {
-                rank: 0,
-                rule: Rule::V7,
-            })
-        }
-        None => None,
+        None if image.limit == image.entries.greatest_dist() => None,
+        None => Some(VerifyFault::Refused {
+            rank: 0,
+            rule: Rule::V7,
+        }),
     }
 }
 
