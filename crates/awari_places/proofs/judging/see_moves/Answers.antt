@@ -13,8 +13,8 @@ loop-pit-preserved g c =
     record {
       six = simp length-set six;
       seen = λ images says.
-          below_more (λ x. Reaches (table_of images) c.args.board.now x (get_or (slice_set c.loop-pit.moves c.loop-pit.pit c.in_ok-see_move.field-0) x None)) c.loop-pit.pit
+          below_more (λ x. Reaches (table_of images) c.args.board.now x (get_or (slice_set c.loop-pit.moves c.loop-pit.pit c.in_ok-moves.field-0) x None)) c.loop-pit.pit
           (λ k h. let ne : k ≢ c.loop-pit.pit = omega arith in rw get_or-set_other (i.seen images says k h))
-          (let lt : c.loop-pit.pit < length c.loop-pit.moves = omega (arith, six, inside) in rw get_or-set_same (c.in_ok-see_move.ensures.reached images (still_says _ _ _ images i.same.stands says)));
+          (let lt : c.loop-pit.pit < length c.loop-pit.moves = omega (arith, six, inside) in rw get_or-set_same (c.in_ok-moves.ensures.reached images (still_says _ _ _ images i.same.stands says)));
       same = unchanged_then _ _ _ i.same c.see_move.ensures.same;
     }

@@ -43,4 +43,4 @@ returns-clause-line g c = λ images says.
     let i = c.loop.invariant in
     let all : c.loop.counter ≡ (table_of images).dist c.args.board = omega (arith, c.loop-test.false, c.loop.auto.counter-end, (c.requires.judged images says).1) in
     let right = c.in_ok-judged.ensures.right images (still_says _ _ _ images i.same.stands says) in
-    held-end (table_of images) _ _ _ _ _ all (subst (IsRight (table_of images)) c.board.ensures.shown right) (i.held images says)
+    held-end (table_of images) _ _ _ _ _ all (subst (IsRight (table_of images)) c.board-2.ensures.shown right) (i.held images says)
