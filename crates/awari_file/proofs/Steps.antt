@@ -5,7 +5,7 @@ use Rattle.awari_file.specs.declared.faults.FileFault.{FileFault}
 use Rattle.awari_file.specs.declared.faults.FileFault.TheVariants as faults
 use Rattle.awari_file.specs.Reading.{Fails, IsOwn}
 use Rattle.awari_file.specs.Source as source
-use Rattle.awari_file.specs.Source.{IsAt, StopsIn, StopsFor, Unfinished, HasFault}
+use Rattle.awari_file.specs.Source.{IsAt, StopsIn, StopsFor, HasFault}
 use Rattle.awari_file.specs.FileText.{IsBytes}
 use Rattle.std.specs.Prelude.{IsOk}
 use Rattle.awari_streams.specs.Counted.{Grew}
@@ -74,7 +74,7 @@ step_gives Y n f is s front whole left x a b here took small h fits =
 
 -- the reader's fault in the piece that came
 pub step_stops : (Y : Type 0) (n : ℕ) (f : Reader Y) → IsField Y n f → (s : FileFault) (front whole left : List ℕ) (a b : Option (List ℕ))
-    → IsAt whole left a → Consumes a b front → f s front ≡ Err faults.Read → StopsIn (Unfinished f) left b
+    → IsAt whole left a → Consumes a b front → f s front ≡ Err faults.Read → StopsIn (HasFault faults.Truncated f) left b
 step_stops Y n f is s front whole left a b here took h =
     let (rest, b-is, parts) = consumes_some a b left front here.known_is took in
     record { came = front; rest = rest; known_is = b-is; parts = parts; kind = read_stops Y n f is s front h }

@@ -9,7 +9,7 @@ use Rattle.awari_file.specs.declared.contents.Loaded.{Loaded}
 use Rattle.awari_file.specs.declared.faults.FileFault.{FileFault}
 use Rattle.awari_file.specs.declared.faults.FileFault.TheVariants.{Truncated}
 use Rattle.awari_file.specs.Reading.{◌>>=◌, header_at, entries_at, end_at, file_in, Fails}
-use Rattle.awari_file.specs.Source.{IsAt, StopsIn, Unfinished, HasFault, IsRefused, IsSoundSoFar}
+use Rattle.awari_file.specs.Source.{IsAt, StopsIn, HasFault, IsRefused, IsSoundSoFar}
 use Rattle.awari_file.proofs.FieldLaws.{took}
 use Rattle.awari_file.proofs.FileLaws.{fails_along, header-is}
 
@@ -67,11 +67,11 @@ all_ok xs h rest n es left done digest size header entries parts is = at_the_end
 
 -- ---- where the reader stops
 
-pub stops_in_header : (xs : List ℕ) (known : Option (List ℕ)) → StopsIn (Unfinished header_at) xs known → StopsIn IsSoundSoFar xs known
+pub stops_in_header : (xs : List ℕ) (known : Option (List ℕ)) → StopsIn (HasFault Truncated header_at) xs known → StopsIn IsSoundSoFar xs known
 unfolding file_in
 stops_in_header xs known stop = record { came = stop.came; rest = stop.rest; known_is = stop.known_is; parts = stop.parts; kind = inl (rw stop.kind refl) }
 
-pub stops_in_entries : (xs : List ℕ) (h : Header) (rest : List ℕ) (n : ℕ) (known : Option (List ℕ)) → n ≡ size_of h.level → header_at Truncated xs ≡ Ok (h, rest) → StopsIn (Unfinished (entries_at n)) rest known → StopsIn IsSoundSoFar xs known
+pub stops_in_entries : (xs : List ℕ) (h : Header) (rest : List ℕ) (n : ℕ) (known : Option (List ℕ)) → n ≡ size_of h.level → header_at Truncated xs ≡ Ok (h, rest) → StopsIn (HasFault Truncated (entries_at n)) rest known → StopsIn IsSoundSoFar xs known
 stops_in_entries xs h rest n known size header stop =
     let t = took Header 52 header_at header-is Truncated Truncated xs (h, rest) header in
     let came = t.front ++ stop.came in

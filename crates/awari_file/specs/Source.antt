@@ -41,11 +41,7 @@ pub record StopsIn (P : List ℕ → Type 0) (left : List ℕ) (known : Option (
   pub parts : left ≡ came ++ rest
   pub kind : P came
 
--- reading ends before the field does
-abbrev pub Unfinished : {Y : Type 0} → (FileFault → List ℕ → Result Y FileFault) → List ℕ → Type 0
-Unfinished f came = f faults.Truncated came ≡ Err faults.Truncated
-
--- what came of a field has this fault
+-- what came of a field has this fault: with 60, it ends before the field does
 abbrev pub HasFault : {Z : Type 0} → FileFault → (FileFault → List ℕ → Result Z FileFault) → List ℕ → Type 0
 HasFault e f came = f faults.Truncated came ≡ Err e
 
@@ -59,7 +55,7 @@ StopsFor sound refused lacking left known e = StopsIn (refused e) left known
 
 -- the same within a field
 abbrev pub StopsAt : {Y : Type 0} → (FileFault → List ℕ → Result Y FileFault) → Type 0 → List ℕ → Option (List ℕ) → FileFault → Type 0
-StopsAt f lacking left known e = StopsFor (Unfinished f) (λ d. HasFault d f) lacking left known e
+StopsAt f lacking left known e = StopsFor (HasFault faults.Truncated f) (λ d. HasFault d f) lacking left known e
 
 -- what came of a file has this fault
 abbrev pub IsRefused : FileFault → List ℕ → Type 0

@@ -17,8 +17,7 @@ use crate::sizes::{BUFFER_LEN, BUFFERED};
 use crate::source::fill;
 use crate::writing::{header_of, spell_run};
 use awari_rank::size;
-use awari_streams::Counted;
-use awari_table::Level;
+use awari_table::{Counted, Level};
 use sha2::{Digest, Sha256};
 use std::io::Read;
 
@@ -43,8 +42,7 @@ fn has_next<R: Read>(reader: &mut Counted<R>, bytes: &[u8]) -> Result<bool, File
 /// Whether the reader has nothing left.
 fn is_at_end<R: Read>(reader: &mut Counted<R>) -> Result<bool, FileFault>
     ensures end { (left : List ℕ) → R.remaining (inner_of reader.old) ≡ Some left → IfOk result (λ at_end. IsTrue at_end ↔ (left ≡ [])) }
-    ensures fault { IfErr result (λ fault. fault ≡ FileFault.Read) }
-    ensures grew { OnErr result (Grew (faults_of reader.old) (faults_of reader.new)) }
+    ensures refused { RefusesAs FileFault.Read (faults_of reader.old) (faults_of reader.new) result }
 {
     let mut buf = [0u8; 1];
     let came = fill(reader, &mut buf, 1);

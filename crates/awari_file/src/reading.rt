@@ -18,8 +18,7 @@ use crate::sealing::{Behind, End, Unsealed};
 use crate::sizes::{BUFFER_LEN, BUFFERED, END_LEN, ENTRY_LEN, HEADER_LEN};
 use crate::source::fill;
 use awari_rank::size;
-use awari_streams::Counted;
-use awari_table::{Entries, Image};
+use awari_table::{Counted, Entries, Image};
 use std::alloc::{AllocError, Global};
 use std::io::Read;
 

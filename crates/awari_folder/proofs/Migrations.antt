@@ -1,6 +1,7 @@
 -- Levels that are brought over from one folder to another.
 use Rattle.std.proofs.Common.{arith, ◌≡◌, ◌≢◌, ◌<◌, ◌≤◌, ◌+◌, ◌⊎◌, inl, inr, ⊎_elim, List, ℕ, suc, [], ◌∷◌, ◌++◌, length, Option, Some, None, Result, Ok, Err, IfSome, ap, sym, refl, subst, ◌∙◌, length-append}
-use Rattle.std.specs.Prelude.{IfOk, IsSomeAnd, replicate}
+use Rattle.std.specs.Prelude.{IfOk, IsSomeAnd, OnOk, replicate}
+use Rattle.sha2.specs.Sha256.{sha256}
 use Rattle.std.proofs.lemmas.Bool.Decides.{eqb_tells}
 use native.Mathlib.Numerals.{unary_clauses}
 use Rattle.awari_table.specs.declared.TheConstants.{HIGHEST_LEVEL}
@@ -8,17 +9,18 @@ use Rattle.awari_table.specs.declared.images.Image.{Image}
 use Rattle.awari_table.specs.Shelves.{Consistent}
 use Rattle.awari_verify.specs.declared.verdicts.VerifyFault.{VerifyFault}
 use Rattle.awari_file.specs.declared.contents.Loaded.{Loaded}
-use Rattle.awari_file.specs.FileText.{IsFileOf, file_text}
-use Rattle.awari_file.specs.Reading.{file_in}
-use Rattle.awari_file.specs.Source.{Answers}
-use Rattle.awari_file.specs.declared.faults.FileFault.{FileFault}
+use Rattle.awari_file.specs.FileText.{IsFileOf, body_text, file_text}
 use Rattle.awari_folder.specs.declared.faults.FolderFault.{FolderFault}
 use Rattle.awari_folder.specs.declared.faults.FolderFault.TheVariants.{Below, File, Open, Verify, Memory, Occupied, Old}
 use Rattle.awari_folder.specs.declared.loading.Stored.{Stored}
 use Rattle.awari_folder.specs.declared.migrating.Limits.{Limits}
 use Rattle.awari_folder.specs.Contents.{Same, SameBut, LeavesToo, Lacks, OpenIfRefused, OpenIfEither, Refusals, Refuses, TellsRefusal, AreNames, HoldsIn}
 use Rattle.awari_folder.specs.State.{IsOwnIfFree}
-use Rattle.awari_folder.specs.Migration.{IsDueIn, IsMigratedFile, MigrateLevels, CanMigrate, IsMigrationFault, IsStoreFault, IsFoundIn, IsMigrated, IsFirstMigrationFault, LeavesWhole}
+use Rattle.awari_folder.specs.Migration.{IsDueIn, IsMigratedFile, MigrateLevels, CanMigrate, IsMigrationFault, IsStoreFault, IsMigrated, IsFirstMigrationFault, LeavesWhole}
+use Rattle.awari_folder.specs.Verifying.{IsMisplaced}
+use Rattle.awari_folder.proofs.Placing.{none_older, seal_fails, sealed_file}
+use Rattle.awari_file.specs.Sealing.{IsUnsealed}
+use Rattle.awari_file.specs.declared.sealing.Unsealed.{Unsealed}
 
 -- ---- a file that is opened
 
@@ -111,12 +113,22 @@ pub wrong_level : (bytes : List ℕ) (shelf : List Image) (below : List ℕ) (ot
     → IsMigrationFault shelf below (Some bytes) other (Verify level fault)
 wrong_level bytes shelf below other level loaded fault is found over due = (is, (loaded.version, record { loaded = loaded; file = found; of_version = refl; over = over; wrong = due }))
 
--- what holds of all bytes that were read so holds of those that were there, if they are known
-pub found_as : (a : Option (List ℕ)) (read : Result Loaded FileFault) (P : List ℕ → Type 0) → IfSome a (λ bytes. IfOk read (λ loaded. IsFileOf bytes loaded))
-    → IfSome a (λ bytes. Answers (λ (loaded : Loaded). loaded) read (file_in bytes)) → ((bytes : List ℕ) → IsFoundIn read bytes → P bytes) → IfSome a P
-found_as None read P found fault then = tt
-found_as (Some bytes) (Ok loaded) P found fault then = then bytes found
-found_as (Some bytes) (Err e) P found fault then = then bytes fault
+-- a file that is misplaced is not to be brought over
+pub misplaced_migration : (shelf : List Image) (below : List ℕ) (file : Unsealed) (level : ℕ) (fault : FolderFault) (bytes : List ℕ) (known other : Option (List ℕ)) → level ≡ length shelf → IsUnsealed file bytes known
+    → IsMisplaced level 1 below file fault → IsMigrationFault shelf below (Some bytes) other fault
+misplaced_migration shelf below file level (Below number) bytes known other here is (same, sealed, late, another) = over_another bytes shelf below other number file.loaded (same ∙ here) (sealed_file file bytes known is sealed) another
+misplaced_migration shelf below file level (File number fault) bytes known other here is (same, wrong) = (same ∙ here, inl (seal_fails file bytes known fault is wrong))
+misplaced_migration shelf below file level (Open number) bytes known other here is never = absurd never
+misplaced_migration shelf below file level (Verify number fault) bytes known other here is never = absurd never
+misplaced_migration shelf below file level Memory bytes known other here is never = absurd never
+misplaced_migration shelf below file level (Occupied number) bytes known other here is never = absurd never
+misplaced_migration shelf below file level (Old number) bytes known other here is (same, sealed, early) = absurd (none_older file.loaded.version is.has.known early)
+
+-- ---- files that stay
+
+stays_free : (stand : Option (Option (List ℕ))) (bytes : List ℕ) → stand ≡ Some (Some bytes) → IfSome stand (λ other. other ≡ None) → ⊥
+stays_free None bytes is free = absurd cc
+stays_free (Some other) bytes is free = let has : other ≡ Some bytes = cc in absurd cc
 
 -- no room, before any level
 pub memory_first : (names others : ℕ → Option (List ℕ)) (stands : ℕ → Option (Option (List ℕ))) → AreNames stands others → IsFirstMigrationFault names others stands Memory

@@ -1,5 +1,5 @@
 -- The file that is to be next, and why it is not.
-use Rattle.std.proofs.Common.{◌≡◌, ◌≢◌, ◌∙◌, List, [], ℕ, Option, Some, None, Result, Ok, Err, ap, arith, inl, inr, length, min, subst, sym, take}
+use Rattle.std.proofs.Common.{◌≡◌, ◌≢◌, ◌∙◌, ◌⊎◌, ◌<◌, List, [], ℕ, Option, Some, None, Result, Ok, Err, ap, arith, inl, inr, length, min, subst, sym, take}
 use Rattle.std.specs.Prelude.{◌≤◌, ◌-◌, IfErr, IfOk, IfSome, IsSomeAnd, MatchResult, ⊤}
 use Rattle.awari_rank.specs.Rank.{size_of}
 use Rattle.awari_table.specs.declared.images.Entry.{Entry}
@@ -13,19 +13,18 @@ use Rattle.awari_file.specs.declared.contents.Loaded.{Loaded}
 use Rattle.awari_file.specs.declared.sealing.Behind.{Behind}
 use Rattle.awari_file.specs.declared.sealing.Behind.TheVariants as behinds
 use Rattle.awari_file.specs.Reading.{◌>>=◌, Fails, end_at, entries_at, file_in, header_at}
-use Rattle.awari_file.specs.Sealing.{IsUnsealed, Seals, Stops, Tells, TellsBehind, TellsOf, fault_behind}
+use Rattle.awari_file.specs.Sealing.{IsUnsealed, Seals, Stops, Tells, TellsBehind, fault_behind}
 use Rattle.awari_file.specs.Source.{BeginsRight}
 use Rattle.awari_file.proofs.FieldLaws.{bind_ok}
 use Rattle.awari_file.proofs.Loop.{nothing_yet, ok_from, some_right}
 use Rattle.awari_file.specs.FileText.{IsFileOf, found_of}
-use Rattle.awari_file.proofs.Sealed.{image_read, seal_stops, unsealed_of}
+use Rattle.awari_file.proofs.Sealed.{image_read, seal_stops, sealed_is, unsealed_of}
 use Rattle.awari_file.proofs.WholeSpell.{file_again, low_in, size_small}
 use Rattle.awari_folder.specs.declared.faults.FolderFault.{FolderFault}
 use Rattle.awari_folder.specs.declared.faults.FolderFault.TheVariants.{Below, File, Open, Verify, Memory, Occupied, Old}
 use Rattle.awari_folder.specs.NextFile.{IsFileFault, IsNextFile}
 use Rattle.awari_folder.specs.Contents.{HoldLevels, IsFaultAt, IsFaultTo, IsOfFile}
-use Rattle.awari_folder.specs.Migration.{IsMigratedOf}
-use Rattle.awari_folder.specs.Verifying.{IsReadAs, IsToldOf, TellsReader}
+use Rattle.awari_folder.specs.Verifying.{IsMisplaced, IsReadAs, IsRefusal, IsToldOf, TellsReader}
 
 -- what is read behind the entries of a file, and behind its header
 abbrev after_entries : List ℕ → Header → List Entry × List ℕ → Result Loaded FileFault
@@ -64,16 +63,48 @@ begins_whole bytes found is =
 pub begins_sealed : (file : Unsealed) (bytes : List ℕ) (known : Option (List ℕ)) → IsUnsealed file bytes known → Seals {X = ⊤} file (Ok tt) → BeginsRight bytes
 begins_sealed file bytes known found sealed = begins_whole bytes file.loaded (image_read (Some bytes) known file found sealed)
 
--- What is told of a file that nobody had to lack memory for is told of any.
-pub told_more : (lacks : Type 0) (shelf : List Image) (below : List ℕ) (file : Unsealed) (fault : FolderFault) → IsToldOf ⊥ shelf below (Ok file) fault → IsToldOf lacks shelf below (Ok file) fault
-told_more lacks shelf below file (Below level) told = told
-told_more lacks shelf below file (File level fault) told = told
-told_more lacks shelf below file (Open level) told = told
-told_more lacks shelf below file (Verify level fault) told = told
-told_more lacks shelf below file Memory (sealed, new, over, inl never) = absurd never
-told_more lacks shelf below file Memory (sealed, new, over, inr right) = (sealed, new, over, inr right)
-told_more lacks shelf below file (Occupied level) told = told
-told_more lacks shelf below file (Old level) told = told
+-- ---- a file that is misplaced
+
+two_of : (version : ℕ) → (version ≡ 1) ⊎ (version ≡ 2) → 2 ≤ version → version ≡ 2
+two_of version (inl one) late = absurd (omega (arith, one, late))
+two_of version (inr two) late = two
+
+one_of : (version : ℕ) → (version ≡ 1) ⊎ (version ≡ 2) → version < 2 → version ≡ 1
+one_of version (inl one) early = one
+one_of version (inr two) early = absurd (omega (arith, two, early))
+
+pub none_older : (version : ℕ) → (version ≡ 1) ⊎ (version ≡ 2) → version < 1 → ⊥
+none_older version (inl one) early = omega (arith, one, early)
+none_older version (inr two) early = omega (arith, two, early)
+
+pub sealed_file : (file : Unsealed) (bytes : List ℕ) (known : Option (List ℕ)) → IsUnsealed file bytes known → Seals {X = ⊤} file (Ok tt) → IsFileOf bytes file.loaded
+sealed_file file bytes known is sealed = (sealed_is file bytes known is sealed.0 sealed.1).1
+
+-- it is not the shelf's next
+pub misplaced_fault : (shelf : List Image) (below : List ℕ) (file : Unsealed) (level : ℕ) (fault : FolderFault) (bytes : List ℕ) (known : Option (List ℕ)) → level ≡ length shelf → IsUnsealed file bytes known
+    → IsMisplaced level 2 below file fault → IsFileFault shelf below bytes fault
+misplaced_fault shelf below file level (Below number) bytes known here is (same, sealed, late, another) =
+    (same ∙ here, record { loaded = file.loaded; file = sealed_file file bytes known is sealed; of_version = two_of file.loaded.version is.has.known late; another = another })
+misplaced_fault shelf below file level (File number fault) bytes known here is (same, wrong) = seal_refused file bytes known shelf below number fault (same ∙ here) is wrong
+misplaced_fault shelf below file level (Open number) bytes known here is never = absurd never
+misplaced_fault shelf below file level (Verify number fault) bytes known here is never = absurd never
+misplaced_fault shelf below file level Memory bytes known here is never = absurd never
+misplaced_fault shelf below file level (Occupied number) bytes known here is never = absurd never
+misplaced_fault shelf below file level (Old number) bytes known here is (same, sealed, early) =
+    (same ∙ here, record { loaded = file.loaded; file = sealed_file file bytes known is sealed; of_version = one_of file.loaded.version is.has.known early })
+
+-- the refusal tells that
+pub misplaced_refusal : (lacks : Unsealed → Type 0) (levels level oldest : ℕ) (below : List ℕ) (file : Unsealed) (fault : FolderFault) → level ≡ levels → IsMisplaced level oldest below file fault
+    → IsRefusal levels (IsToldOf lacks (Ok file)) fault
+misplaced_refusal lacks levels level oldest below file (Below number) here is = record { named = is.0 ∙ here; of_file = tt; told = tt }
+misplaced_refusal lacks levels level oldest below file (File number fault) here is = record { named = (is.0 ∙ here, seal_other file fault is.1); of_file = tt; told = is.1 }
+misplaced_refusal lacks levels level oldest below file (Open number) here never = absurd never
+misplaced_refusal lacks levels level oldest below file (Verify number fault) here never = absurd never
+misplaced_refusal lacks levels level oldest below file Memory here never = absurd never
+misplaced_refusal lacks levels level oldest below file (Occupied number) here never = absurd never
+misplaced_refusal lacks levels level oldest below file (Old number) here is = record { named = is.0 ∙ here; of_file = tt; told = tt }
+
+-- ---- faults of the reader
 
 tells_read : (fault e : FileFault) (level old new : ℕ) → fault ≡ e → Tells e old new → TellsReader (File level fault) old new
 tells_read reads.Read e level old new is tells = subst (λ (f : FileFault). Tells f old new) (sym is) tells
@@ -98,34 +129,22 @@ tells_seal file fault level old new (inl wrong) tells = subst (λ (f : FileFault
 tells_seal file fault level old new (inr after) tells = tells_fault file.behind fault level old new after.1 tells
 
 -- 68 tells of a fault of the reader.
-pub tells_reader : (lacks : Type 0) (shelf : List Image) (below : List ℕ) (read : Result Unsealed FileFault) (fault : FolderFault) (old new : ℕ) → IsToldOf lacks shelf below read fault
+pub tells_reader : (lacks : Unsealed → Type 0) (read : Result Unsealed FileFault) (fault : FolderFault) (old new : ℕ) → IsToldOf lacks read fault
     → MatchResult read (λ file. TellsBehind file.behind old new) (λ e. Tells e old new) → TellsReader fault old new
-tells_reader lacks shelf below read (Below level) old new told counted = tt
-tells_reader lacks shelf below (Ok file) (File level fault) old new told counted = tells_seal file fault level old new told counted
-tells_reader lacks shelf below (Err e) (File level fault) old new told counted = tells_read fault e level old new told counted
-tells_reader lacks shelf below read (Open level) old new told counted = tt
-tells_reader lacks shelf below read (Verify level fault) old new told counted = tt
-tells_reader lacks shelf below read Memory old new told counted = tt
-tells_reader lacks shelf below read (Occupied level) old new told counted = tt
-tells_reader lacks shelf below read (Old level) old new told counted = tt
+tells_reader lacks read (Below level) old new told counted = tt
+tells_reader lacks (Ok file) (File level fault) old new told counted = tells_seal file fault level old new told counted
+tells_reader lacks (Err e) (File level fault) old new told counted = tells_read fault e level old new told counted
+tells_reader lacks read (Open level) old new told counted = tt
+tells_reader lacks read (Verify level fault) old new told counted = tt
+tells_reader lacks read Memory old new told counted = tt
+tells_reader lacks read (Occupied level) old new told counted = tt
+tells_reader lacks read (Old level) old new told counted = tt
 
--- the same of a file that was read whole
-pub tells_loaded : (shelf : List Image) (below : List ℕ) (read : Result Loaded FileFault) (fault : FolderFault) (old new : ℕ) → IsMigratedOf shelf below read fault
-    → TellsOf old new read → TellsReader fault old new
-tells_loaded shelf below read (Below level) old new told counted = tt
-tells_loaded shelf below (Ok loaded) (File level fault) old new told counted = absurd told
-tells_loaded shelf below (Err e) (File level fault) old new told counted = tells_read fault e level old new told counted
-tells_loaded shelf below read (Open level) old new told counted = tt
-tells_loaded shelf below read (Verify level fault) old new told counted = tt
-tells_loaded shelf below read Memory old new told counted = tt
-tells_loaded shelf below read (Occupied level) old new told counted = tt
-tells_loaded shelf below read (Old level) old new told counted = tt
-
--- the same of what was answered
-pub tells_all_loaded : {T : Type 0} (shelf : List Image) (below : List ℕ) (read : Result Loaded FileFault) (result : Result T FolderFault) (old new : ℕ) → IfErr result (IsMigratedOf shelf below read)
-    → TellsOf old new read → IfErr result (λ fault. TellsReader fault old new)
-tells_all_loaded shelf below read (Ok x) old new told counted = tt
-tells_all_loaded shelf below read (Err fault) old new told counted = tells_loaded shelf below read fault old new told counted
+-- so a refusal tells of it
+pub refusal_tells : {T : Type 0} (levels : ℕ) (lacks : Unsealed → Type 0) (read : Result Unsealed FileFault) (result : Result T FolderFault) (old new : ℕ) → IfErr result (IsRefusal levels (IsToldOf lacks read))
+    → MatchResult read (λ file. TellsBehind file.behind old new) (λ e. Tells e old new) → IfErr result (IsRefusal levels (λ fault. TellsReader fault old new))
+refusal_tells levels lacks read (Ok x) old new is counted = tt
+refusal_tells levels lacks read (Err fault) old new is counted = record { named = is.named; of_file = is.of_file; told = tells_reader lacks read fault old new is.told counted }
 
 -- What holds of all bytes that were read so holds of those that were there, if they are known.
 pub read_as : (a known : Option (List ℕ)) (read : Result Unsealed FileFault) (P : List ℕ → Type 0) → IfSome a (λ bytes. IfOk read (λ file. IsUnsealed file bytes known))

@@ -1,5 +1,5 @@
 -- The levels of one folder brought over to another.
-use Rattle.std.specs.Prelude.{◌≡◌, ◌≢◌, ◌<◌, ◌≤◌, ◌⊎◌, ⊤, ℕ, zero, suc, List, [], ◌∷◌, ◌++◌, length, replicate, Option, Some, None, IsSome, IsSomeAnd, Result, Ok, Err}
+use Rattle.std.specs.Prelude.{◌≡◌, ◌≢◌, ◌<◌, ◌≤◌, ◌⊎◌, ⊤, ℕ, zero, suc, List, [], ◌∷◌, ◌++◌, length, replicate, Option, Some, None, IsSome, IsSomeAnd, Ok}
 use Rattle.awari_table.specs.declared.TheConstants.{HIGHEST_LEVEL}
 use Rattle.awari_table.specs.declared.images.Image.{Image}
 use Rattle.awari_table.specs.Shelves.{Consistent}
@@ -9,17 +9,18 @@ use Rattle.awari_verify.specs.Older.{IsDueOld}
 use Rattle.awari_verify.specs.VerifyFault.{IsDue}
 use Rattle.awari_verify.specs.declared.verdicts.VerifyFault.{VerifyFault}
 use Rattle.awari_file.specs.declared.contents.Loaded.{Loaded}
-use Rattle.awari_file.specs.declared.faults.FileFault.{FileFault}
 use Rattle.awari_file.specs.declared.faults.FileFault.TheVariants.{Write}
-use Rattle.awari_file.specs.declared.faults.FileFault.TheVariants as file
 use Rattle.awari_file.specs.FileText.{IsFileOf, file_text}
 use Rattle.awari_file.specs.Reading.{file_in, Fails}
+use Rattle.awari_file.specs.Sealing.{Seals}
+use Rattle.awari_file.specs.declared.sealing.Unsealed.{Unsealed}
 use Rattle.awari_folder.specs.declared.faults.FolderFault.{FolderFault}
 use Rattle.awari_folder.specs.declared.faults.FolderFault.TheVariants.{Below, File, Open, Verify, Memory, Occupied, Old}
 use Rattle.awari_folder.specs.declared.migrating.Limits.{Limits}
 use Rattle.awari_folder.specs.declared.migrating.MigratedLevel.{MigratedLevel}
 use Rattle.awari_folder.specs.NextFile.{IsOverAnother, IsWrong}
-use Rattle.awari_folder.specs.Contents.{HoldsIn}
+use Rattle.awari_folder.specs.Contents.{AreNames, HoldsIn, LeavesStill}
+use Rattle.awari_folder.specs.State.{State}
 
 -- the fault of an image by the rules of its version
 abbrev pub IsDueIn : ℕ → List Image → Image → VerifyFault → Type 0
@@ -123,18 +124,11 @@ IsStoreFault number other Memory = ⊤
 IsStoreFault number other (Occupied level) = (level ≡ number) × IsSome other
 IsStoreFault number other (Old level) = ⊥
 
--- the bytes were read so
-abbrev pub IsFoundIn : Result Loaded FileFault → List ℕ → Type 0
-IsFoundIn (Ok loaded) bytes = IsFileOf bytes loaded
-IsFoundIn (Err e) bytes = Fails e (file_in bytes)
+-- the least distances of a level of version 1 that is right may lack memory
+abbrev pub LacksLeast : List Image → List ℕ → Unsealed → Type 0
+LacksLeast shelf below f = Seals {X = ⊤} f (Ok tt) × (f.loaded.below ≡ below) × (f.loaded.version ≡ 1) × ConsistentOld shelf f.loaded.image
 
--- The refusal tells what reading answered, and nothing else in its place: a fault of the file is that which was read, and want of
--- memory is that of the reading, or of the least distances of a level of version 1 that is right.
-abbrev pub IsMigratedOf : List Image → List ℕ → Result Loaded FileFault → FolderFault → Type 0
-IsMigratedOf shelf below (Err e) (File level fault) = fault ≡ e
-IsMigratedOf shelf below (Err e) Memory = e ≡ file.Memory
-IsMigratedOf shelf below (Err e) fault = ⊥
-IsMigratedOf shelf below (Ok loaded) Memory = (loaded.below ≡ below) × (loaded.version ≡ 1) × ConsistentOld shelf loaded.image
-IsMigratedOf shelf below (Ok loaded) (File level fault) = ⊥
-IsMigratedOf shelf below (Ok loaded) (Open level) = ⊥
-IsMigratedOf shelf below (Ok loaded) fault = ⊤
+-- A crash leaves under each name what it might have left before, and else a whole file where there was none.
+pub record CrashesWhole (old new : State) : Type 0 where
+  pub still : LeavesStill old.may_leave new.may_leave
+  pub whole : (others : ℕ → Option (List ℕ)) → AreNames old.stands others → LeavesWhole others old.may_leave new.may_leave

@@ -1,15 +1,14 @@
 //! A shelf from the files in a folder.
 
-ghost use Rattle.std.specs.Prelude.{◌≡◌, ◌≢◌, ℕ, ◌+◌, ◌≤◌, [], List, Option, IfOk, IfErr, OnOk, OnErr, replicate, IfSome, Err, Ok, length, MatchResult};
-ghost use Rattle.awari_streams.specs.Counted.{inner_of, faults_of, Grew};
+ghost use Rattle.std.specs.Prelude.{◌≡◌, ℕ, ◌+◌, ◌≤◌, [], List, Option, IfOk, IfErr, OnOk, OnErr, replicate, IfSome, length, MatchResult};
+ghost use Rattle.awari_streams.specs.Counted.{inner_of, faults_of};
 ghost use Rattle.awari_table.specs.declared.TheConstants.{HIGHEST_LEVEL};
 ghost use Rattle.awari_theory.specs.Truth.{TellsTruth};
-ghost use Rattle.awari_file.specs.Sealing.{IsUnsealed};
 ghost use Rattle.awari_folder.specs.FolderFault.{Names, NamesLevel};
 ghost use Rattle.awari_folder.specs.State.{OnlyReads};
 ghost use Rattle.awari_folder.specs.NextFile.{IsNextFile, IsFileFault};
-ghost use Rattle.awari_folder.specs.Contents.{IsOfFile, AreNames, IsStoredTo, IsFaultTo, Lacks};
-ghost use Rattle.awari_folder.specs.Verifying.{IsReadAs, IsToldOf, TellsReader};
+ghost use Rattle.awari_folder.specs.Contents.{AreNames, IsStoredTo, IsFaultTo, Lacks};
+ghost use Rattle.awari_folder.specs.Verifying.{IsMisplaced, IsPlaced, IsReadAs, IsRefusal, IsToldOf, TellsReader};
 
 use crate::calls::{Folder, Refusal};
 use crate::faults::FolderFault;
@@ -54,7 +53,8 @@ impl Stored {
         ensures named { IfErr result (Names (length self.old.shelf)) }
         ensures kept { OnErr result (self.new ≡ self.old) }
     {
-        self.put_on(&Alone, alloc, &mut Counted::new(bytes))
+        self.put_on(&Alone, alloc, &mut Counted::new(bytes))?;
+        Ok(())
     }
 
     /// Reads the file of the next level and puts the level on top, if all is right.
@@ -65,13 +65,10 @@ impl Stored {
         reader: &mut Counted<R>,
     ) -> Result<(), FolderFault>
         requires ready { V.ready }
-        ensures ok { IfSome (R.remaining (inner_of reader.old)) (λ bytes. OnOk result (IsNextFile self.old.shelf self.old.digest bytes self.new.shelf self.new.digest)) }
-        ensures fault { IfSome (R.remaining (inner_of reader.old)) (λ bytes. IfErr result (IsFileFault self.old.shelf self.old.digest bytes)) }
-        ensures meaning { OnOk result (TellsTruth self.new.shelf) }
-        ensures levels { OnOk result (length self.new.shelf ≡ length self.old.shelf + 1) }
-        ensures named { IfErr result (Names (length self.old.shelf)) }
-        ensures of_file { IfErr result IsOfFile }
-        ensures read { IfErr result (λ fault. TellsReader fault (faults_of reader.old) (faults_of reader.new)) }
+        ensures exact { IfSome (R.remaining (inner_of reader.old))
+            (λ bytes. MatchResult result (λ _. IsNextFile self.old.shelf self.old.digest bytes self.new.shelf self.new.digest) (IsFileFault self.old.shelf self.old.digest bytes)) }
+        ensures right { OnOk result ((length self.new.shelf ≡ length self.old.shelf + 1) × TellsTruth self.new.shelf) }
+        ensures refused { IfErr result (IsRefusal (length self.old.shelf) (λ fault. TellsReader fault (faults_of reader.old) (faults_of reader.new))) }
         ensures kept { OnErr result (self.new ≡ self.old) }
     {
         let read = read_unsealed(alloc, reader);
@@ -87,13 +84,10 @@ impl Stored {
     ) -> Result<(), FolderFault>
         requires ready { V.ready }
         requires low { IfOk read (λ file. file.loaded.image.level ≤ HIGHEST_LEVEL) }
-        ensures ok { (bytes : List ℕ) (known : Option (List ℕ)) → IsReadAs read bytes known → OnOk result (IsNextFile self.old.shelf self.old.digest bytes self.new.shelf self.new.digest) }
-        ensures fault { (bytes : List ℕ) (known : Option (List ℕ)) → IsReadAs read bytes known → IfErr result (IsFileFault self.old.shelf self.old.digest bytes) }
-        ensures told { IfErr result (IsToldOf V.lacks self.old.shelf self.old.digest read) }
-        ensures meaning { OnOk result (TellsTruth self.new.shelf) }
-        ensures levels { OnOk result (length self.new.shelf ≡ length self.old.shelf + 1) }
-        ensures named { IfErr result (Names (length self.old.shelf)) }
-        ensures of_file { IfErr result IsOfFile }
+        ensures exact { (bytes : List ℕ) (known : Option (List ℕ)) → IsReadAs read bytes known
+            → MatchResult result (λ _. IsNextFile self.old.shelf self.old.digest bytes self.new.shelf self.new.digest) (IsFileFault self.old.shelf self.old.digest bytes) }
+        ensures right { OnOk result ((length self.new.shelf ≡ length self.old.shelf + 1) × TellsTruth self.new.shelf) }
+        ensures refused { IfErr result (IsRefusal (length self.old.shelf) (IsToldOf (IsPlaced V.lacks self.old.shelf self.old.digest) read)) }
         ensures kept { OnErr result (self.new ≡ self.old) }
     {
         let level = self.shelf.levels();
@@ -102,7 +96,7 @@ impl Stored {
             Err(FileFault::Memory) => return Err(FolderFault::Memory),
             Err(fault) => return Err(FolderFault::File { level, fault }),
         };
-        self.place(&file)?;
+        place(&file, level, OLD_VERSION + 1, &self.digest)?;
         match verifier.verify(alloc, &self.shelf, &file) {
             Ok(None) => {}
             Ok(Some(VerifyFault::Memory)) => return Err(FolderFault::Memory),
@@ -115,28 +109,31 @@ impl Stored {
         self.digest = digest;
         Ok(())
     }
+}
 
-    /// Refuses a file that is not to be the next, whatever its level is: one of version 1 as 86, and one
-    /// over another file as 80. If it is not sealed by its digest, that is told as 81.
-    fn place(&self, file: &Unsealed) -> Result<(), FolderFault>
-        requires low { file.now.loaded.image.level ≤ HIGHEST_LEVEL }
-        ensures ok { OnOk result ((file.now.loaded.version ≢ 1) × (file.now.loaded.below ≡ self.now.digest)) }
-        ensures fault { (bytes : List ℕ) (known : Option (List ℕ)) → IsUnsealed file.now bytes known → IfErr result (IsFileFault self.now.shelf self.now.digest bytes) }
-        ensures named { IfErr result (Names (length self.now.shelf)) }
-        ensures told { IfErr result (IsToldOf ⊥ self.now.shelf self.now.digest (Ok file.now)) }
-    {
-        let level = self.shelf.levels();
-        let fault = if file.loaded.version == OLD_VERSION {
-            FolderFault::Old { level }
-        } else if file.loaded.below != self.digest {
-            FolderFault::Below { level }
-        } else {
-            return Ok(());
-        };
-        match file.seal() {
-            Ok(()) => Err(fault),
-            Err(fault) => Err(FolderFault::File { level, fault }),
-        }
+/// Refuses a file that is not to be this level's, whatever its level is: one of a version before `oldest` as
+/// 86, and one over another file than the one that ends in `below` as 80. If it is not sealed by its digest, that
+/// is told as 81.
+pub(crate) fn place(
+    file: &Unsealed,
+    level: u8,
+    oldest: u16,
+    below: &[u8; 32],
+) -> Result<(), FolderFault>
+    requires low { file.now.loaded.image.level ≤ HIGHEST_LEVEL }
+    ensures ok { OnOk result ((oldest ≤ file.now.loaded.version) × (file.now.loaded.below ≡ below.now)) }
+    ensures misplaced { IfErr result (IsMisplaced level oldest below.now file.now) }
+{
+    let fault = if file.loaded.version < oldest {
+        FolderFault::Old { level }
+    } else if file.loaded.below != *below {
+        FolderFault::Below { level }
+    } else {
+        return Ok(());
+    };
+    match file.seal() {
+        Ok(()) => Err(fault),
+        Err(fault) => Err(FolderFault::File { level, fault }),
     }
 }
 

@@ -7,15 +7,16 @@ ghost use Rattle.awari_streams.specs.Counted.{faults_of, inner_of};
 ghost use Rattle.awari_table.specs.Shelves.{Consistent};
 ghost use Rattle.awari_theory.specs.Older.{ConsistentOld};
 ghost use Rattle.awari_folder.specs.FolderFault.{Names, NamesLevel};
-ghost use Rattle.awari_folder.specs.Contents.{LeavesStill, IsOfFile, OpenIfEither, AreNames};
-ghost use Rattle.awari_folder.specs.Verifying.{TellsReader};
+ghost use Rattle.awari_folder.specs.Contents.{OpenIfEither, AreNames};
+ghost use Rattle.awari_folder.specs.Verifying.{IsReadAs, IsRefusal, IsToldOf, TellsReader};
 ghost use Rattle.awari_folder.specs.State.{IsOwnIfFree, OnlyReads, Outcome, Unchanged};
-ghost use Rattle.awari_folder.specs.Migration.{IsDueIn, IsMigratedImage, IsMigratedFile, IsNextMigrated, IsMigrationFault, IsMigrated, IsFirstMigrationFault, IsStoreFault, IsFoundIn, IsMigratedOf, LeavesWhole, KeepsFiles};
+ghost use Rattle.awari_folder.specs.Migration.{IsDueIn, IsMigratedImage, IsMigratedFile, IsNextMigrated, IsMigrationFault, IsMigrated, IsFirstMigrationFault, IsStoreFault, CrashesWhole, LacksLeast, KeepsFiles};
 
 use crate::calls::{Folder, Refusal};
 use crate::faults::FolderFault;
+use crate::loading::place;
 use crate::saving::save;
-use awari_file::{FileFault, Loaded, OLD_VERSION, read_image};
+use awari_file::{FileFault, Loaded, OLD_VERSION, Unsealed, read_unsealed};
 use awari_play::least;
 use awari_table::{Counted, HIGHEST_LEVEL, Image, Level, Shelf};
 use awari_verify::{VerifyFault, verify, verify_old};
@@ -75,9 +76,8 @@ pub fn migrate<F: Folder, G: Folder>(
     ensures named { IfErr result NamesLevel }
     // Whether it is refused or not, each file stays that was there.
     ensures kept { KeepsFiles (G.state to.old).stands (G.state to.new).stands }
-    ensures kept_still { LeavesStill (G.state to.old).may_leave (G.state to.new).may_leave }
     // A crash at any moment leaves no half of a file, and harms none that was there.
-    ensures whole { (others : ℕ → Option (List ℕ)) → AreNames (G.state to.old).stands others → LeavesWhole others (G.state to.old).may_leave (G.state to.new).may_leave }
+    ensures whole { CrashesWhole (G.state to.old) (G.state to.new) }
     // It is 82 if one of the folders refused to open, to make or to name a file, and only then.
     ensures refused { OpenIfEither result (F.state from.old).refusals (F.state from.new).refusals (G.state to.old).refusals (G.state to.new).refusals }
     // Nothing is changed in the folder that the levels come from.
@@ -145,11 +145,9 @@ fn read_migrated<R: Read>(
     ensures ok { IfSome (R.remaining (inner_of reader.old)) (λ bytes. IfOk result (λ migrated. IsMigratedFile shelf.now below bytes migrated.level migrated.digest migrated.limits)) }
     ensures fault { (other : Option (List ℕ)) → IfSome (R.remaining (inner_of reader.old)) (λ bytes. IfErr result (IsMigrationFault shelf.now below (Some bytes) other)) }
     ensures right { IfOk result (λ migrated. Consistent shelf.now migrated.level) }
-    ensures named { IfErr result (Names (length shelf.now)) }
-    ensures of_file { IfErr result IsOfFile }
-    ensures read { IfErr result (λ fault. TellsReader fault (faults_of reader.old) (faults_of reader.new)) }
+    ensures refused { IfErr result (IsRefusal (length shelf.now) (λ fault. TellsReader fault (faults_of reader.old) (faults_of reader.new))) }
 {
-    let read = read_image(alloc, reader);
+    let read = read_unsealed(alloc, reader);
     migrated_of(alloc, shelf, below, read)
 }
 
@@ -158,24 +156,25 @@ fn migrated_of(
     alloc: Global,
     shelf: &Shelf,
     below: [u8; 32],
-    read: Result<Loaded, FileFault>,
+    read: Result<Unsealed, FileFault>,
 ) -> Result<MigratedLevel, FolderFault>
-    ensures ok { (bytes : List ℕ) → IsFoundIn read bytes → IfOk result (λ migrated. IsMigratedFile shelf.now below bytes migrated.level migrated.digest migrated.limits) }
-    ensures fault { (bytes : List ℕ) (other : Option (List ℕ)) → IsFoundIn read bytes → IfErr result (IsMigrationFault shelf.now below (Some bytes) other) }
-    ensures told { IfErr result (IsMigratedOf shelf.now below read) }
+    requires low { IfOk read (λ file. file.loaded.image.level ≤ HIGHEST_LEVEL) }
+    ensures ok { (bytes : List ℕ) (known : Option (List ℕ)) → IsReadAs read bytes known → IfOk result (λ migrated. IsMigratedFile shelf.now below bytes migrated.level migrated.digest migrated.limits) }
+    ensures fault { (bytes : List ℕ) (known other : Option (List ℕ)) → IsReadAs read bytes known → IfErr result (IsMigrationFault shelf.now below (Some bytes) other) }
     ensures right { IfOk result (λ migrated. Consistent shelf.now migrated.level) }
-    ensures named { IfErr result (Names (length shelf.now)) }
-    ensures of_file { IfErr result IsOfFile }
+    ensures refused { IfErr result (IsRefusal (length shelf.now) (IsToldOf (LacksLeast shelf.now below) read)) }
 {
     let level = shelf.levels();
-    let loaded = match read {
-        Ok(loaded) => loaded,
+    let file = match read {
+        Ok(file) => file,
         Err(FileFault::Memory) => return Err(FolderFault::Memory),
         Err(fault) => return Err(FolderFault::File { level, fault }),
     };
-    if loaded.below != below {
-        return Err(FolderFault::Below { level });
+    place(&file, level, OLD_VERSION, &below)?;
+    if let Err(fault) = file.seal() {
+        return Err(FolderFault::File { level, fault });
     }
+    let Unsealed { loaded, .. } = file;
     let Loaded {
         version,
         image,

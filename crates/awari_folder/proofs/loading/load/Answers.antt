@@ -24,7 +24,7 @@ returns-in_err-put_on-in-Ok-Some-clause-reads g c =
     let p = err_from_is_err_and c.from_residual.result c.from_residual.ensures.1 in
     let i = c.loop-level.invariant in
     only_reads _ _ _ (unchanged_then _ _ _ i.unchanged c.open.ensures.unchanged)
-    (rw (p.1, p.2) (not_open _ _ _ c.in_err-put_on-in-Ok-Some.ensures.of_file (c.in-Ok-Some.ensures.refused ∙ i.refused)))
+    (rw (p.1, p.2) (not_open _ _ _ c.in_err-put_on-in-Ok-Some.ensures.refused.of_file (c.in-Ok-Some.ensures.refused ∙ i.refused)))
 
 pub returns-in_err-put_on-in-Ok-Some-clause-exact : goal.returns-in_err-put_on-in-Ok-Some-clause-exact
 returns-in_err-put_on-in-Ok-Some-clause-exact g c = λ names are.
@@ -33,9 +33,9 @@ returns-in_err-put_on-in-Ok-Some-clause-exact g c = λ names are.
     let level = c.loop-level.level in
     let fault = c.in_err-put_on-in-Ok-Some.field-0.0 in
     let here = of_name g.F.File.Read.remaining _ _ _ c.in-Ok-Some.file (λ bytes. IsFileFault c.loop-level.stored.shelf c.loop-level.stored.digest bytes fault)
-    c.new.ensures.inner (i.unchanged.stands level ∙ are level) (subst (λ o. Opens g.F.File.Read.remaining ((g.F.Folder.state c.loop-level.folder).stands level) o) c.in-Ok-Some.field-0-is c.in-Ok-Some.ensures.opened) c.in_err-put_on-in-Ok-Some.ensures.fault in
+    c.new.ensures.inner (i.unchanged.stands level ∙ are level) (subst (λ o. Opens g.F.File.Read.remaining ((g.F.Folder.state c.loop-level.folder).stands level) o) c.in-Ok-Some.field-0-is c.in-Ok-Some.ensures.opened) c.in_err-put_on-in-Ok-Some.ensures.exact in
     rw (p.1, p.2) (fault_to _ c.args.most names level c.loop-level.stored.shelf c.loop-level.stored.digest fault (let low = c.loop-level-test.true in omega (arith, low)) (i.held names are)
-    (fault_at _ names level c.loop-level.stored.shelf c.loop-level.stored.digest fault c.in_err-put_on-in-Ok-Some.ensures.of_file here))
+    (fault_at _ names level c.loop-level.stored.shelf c.loop-level.stored.digest fault c.in_err-put_on-in-Ok-Some.ensures.refused.of_file here))
 
 pub returns-in-Err-Refused-clause-exact : goal.returns-in-Err-Refused-clause-exact
 returns-in-Err-Refused-clause-exact g c = λ names are.
@@ -47,12 +47,12 @@ loop-level-preserved g c =
     let i = c.loop-level.invariant in
     let e = c.open.ensures in
     record {
-      truth = c.in_ok-put_on-in-Ok-Some.ensures.meaning;
-      levels = c.in_ok-put_on-in-Ok-Some.ensures.levels ∙ ap (λ n. n + 1) i.levels;
+      truth = c.in_ok-put_on-in-Ok-Some.ensures.right.1;
+      levels = c.in_ok-put_on-in-Ok-Some.ensures.right.0 ∙ ap (λ n. n + 1) i.levels;
       held = λ names are. next_level names c.loop-level.level c.loop-level.stored.shelf c.loop-level.stored.digest c.put_on.new.self.shelf c.put_on.new.self.digest (i.held names are)
           (of_name g.F.File.Read.remaining _ _ _ c.in-Ok-Some.file (λ bytes. IsNextFile c.loop-level.stored.shelf c.loop-level.stored.digest bytes c.put_on.new.self.shelf c.put_on.new.self.digest)
           c.new.ensures.inner (i.unchanged.stands c.loop-level.level ∙ are c.loop-level.level) (subst (λ o. Opens g.F.File.Read.remaining ((g.F.Folder.state c.loop-level.folder).stands c.loop-level.level) o) c.in-Ok-Some.field-0-is c.in-Ok-Some.ensures.opened)
-          c.in_ok-put_on-in-Ok-Some.ensures.ok);
+          c.in_ok-put_on-in-Ok-Some.ensures.exact);
       unchanged = unchanged_then _ _ _ i.unchanged e.unchanged;
       refused = c.in-Ok-Some.ensures.refused ∙ i.refused;
     }
@@ -67,11 +67,11 @@ returns-clause-exact g c = λ names are.
           (let low = w.loop-level-test.true in omega (arith, low))
           (inl (of_no_name g.F.File.Read.remaining ((g.F.Folder.state c.loop-level.folder).stands c.loop-level.level) (names c.loop-level.level) (i.unchanged.stands c.loop-level.level ∙ are c.loop-level.level) (subst (λ o. Opens g.F.File.Read.remaining ((g.F.Folder.state c.loop-level.folder).stands c.loop-level.level) o) w.in-Ok-None.field-0-is w.in-Ok-None.ensures.opened))))
       | then-loop-level-test+in-Ok-Some+in_ok-put_on-in-Ok-Some+else-level-most w ↦ rw w.stored-is (stored_to c.args.most names (c.loop-level.level + 1) w.put_on.new.self.shelf w.put_on.new.self.digest
-          (w.in_ok-put_on-in-Ok-Some.ensures.levels ∙ ap (λ n. n + 1) i.levels)
+          (w.in_ok-put_on-in-Ok-Some.ensures.right.0 ∙ ap (λ n. n + 1) i.levels)
           (next_level names c.loop-level.level c.loop-level.stored.shelf c.loop-level.stored.digest w.put_on.new.self.shelf w.put_on.new.self.digest (i.held names are)
           (of_name g.F.File.Read.remaining _ _ _ w.in-Ok-Some.file (λ bytes. IsNextFile c.loop-level.stored.shelf c.loop-level.stored.digest bytes w.put_on.new.self.shelf w.put_on.new.self.digest)
           w.new.ensures.inner (i.unchanged.stands c.loop-level.level ∙ are c.loop-level.level) (subst (λ o. Opens g.F.File.Read.remaining ((g.F.Folder.state c.loop-level.folder).stands c.loop-level.level) o) w.in-Ok-Some.field-0-is w.in-Ok-Some.ensures.opened)
-          w.in_ok-put_on-in-Ok-Some.ensures.ok))
+          w.in_ok-put_on-in-Ok-Some.ensures.exact))
           (let low = w.loop-level-test.true in omega (arith, low))
           (inr (search rules)))
     ]

@@ -22,9 +22,8 @@ loop-init g c = record {
   room = c.in_ok-limits.ensures.capacity;
   come = λ names others from to. come-none names others _ c.empty-shelf.result c.in_ok-limits.limits.items to c.empty-shelf.ensures c.in_ok-limits.ensures.items;
   to_rest = λ others to n le. to n;
-  whole = λ others to n left end. inl end;
+  whole = record { still = λ n o h. h; whole = λ others to n left end. inl end };
   kept = λ n bytes is. is;
-  kept_still = λ n o h. h;
   from_refused = refl;
   to_refused = refl;
   unchanged = unchanged _;
@@ -78,9 +77,11 @@ loop-preserved g c =
           come-next names others _ _ c.loop.counter c.loop.shelf c.push.new.self c.loop.below next.digest c.loop.limits.items c.push_reserved.new.self.items c.loop.digest c.in_ok-digest.digest next.level put next.limits
           i.levels same right (i.come names others from to) migrated c.in_ok-digest.ensures.free c.store.ensures.outcome.leaves.others (λ s held right. subst (HoldsIn _ (s ++ put ∷ [])) (sym c.in_ok-digest.ensures.outcome.digest.1) (c.in_ok-digest.ensures.outcome.saved.next s held right)) after c.push_reserved.ensures.items;
       to_rest = λ others to. rest-more others _ _ c.loop.counter put.level level c.store.ensures.outcome.leaves.others (i.to_rest others to);
-      whole = λ others to. leaves-more others ((g.G.Folder.state c.loop.to).stands) _ _ _ put c.loop.digest (i.to_rest others to put.level (omega (arith, level))) (i.whole others to) c.store.ensures.outcome.leaves.crash;
+      whole = record {
+        still = λ n o h. c.store.ensures.outcome.leaves.still n o (i.whole.still n o h);
+        whole = λ others to. leaves-more others ((g.G.Folder.state c.loop.to).stands) _ _ _ put c.loop.digest (i.to_rest others to put.level (omega (arith, level))) (i.whole.whole others to) c.store.ensures.outcome.leaves.crash;
+      };
       kept = λ n bytes is. c.store.ensures.kept n bytes (i.kept n bytes is);
-      kept_still = λ n o h. c.store.ensures.outcome.leaves.still n o (i.kept_still n o h);
       from_refused = c.in_ok-next.ensures.reads.refused ∙ i.from_refused;
       to_refused = c.in_ok-digest.ensures.outcome.refused ∙ i.to_refused;
       unchanged = unchanged_then _ _ _ i.unchanged e.reads.unchanged;
@@ -122,14 +123,17 @@ returns-in_err-level-clause-refused g c =
     rw (p.1, p.2) (inl (c.in_ok-next.ensures.reads.refused ∙ i.from_refused), inl i.to_refused)
 
 pub returns-in_err-digest-clause-whole : goal.returns-in_err-digest-clause-whole
-returns-in_err-digest-clause-whole g c = λ others to.
+returns-in_err-digest-clause-whole g c =
     let i = c.loop.invariant in
     let next = c.in-Some.next in
     let put = c.deref.result.now in
     let same : put ≡ next.level = search rules in
     let right = subst (λ o. IfSome o (λ m. Consistent c.loop.shelf m.level)) c.in-Some.is c.in_ok-next.ensures.right in
     let level : put.level ≡ c.loop.counter = ap (λ (image : Image). image.level) same ∙ right.next ∙ i.levels in
-    leaves-more others ((g.G.Folder.state c.loop.to).stands) _ _ _ put c.loop.digest (i.to_rest others to put.level (omega (arith, level))) (i.whole others to) c.store.ensures.outcome.leaves.crash
+    record {
+      still = λ n o h. c.store.ensures.outcome.leaves.still n o (i.whole.still n o h);
+      whole = λ others to. leaves-more others ((g.G.Folder.state c.loop.to).stands) _ _ _ put c.loop.digest (i.to_rest others to put.level (omega (arith, level))) (i.whole.whole others to) c.store.ensures.outcome.leaves.crash;
+    }
 
 pub returns-in_err-digest-clause-named : goal.returns-in_err-digest-clause-named
 returns-in_err-digest-clause-named g c =

@@ -1,8 +1,8 @@
 use Rattle.std.proofs.Common.{◌≡◌, ◌≤◌, ℕ, List, Option, Some, length, vec_len}
 use Rattle.std.specs.Vec.{vec_capacity}
-use Rattle.awari_folder.specs.Contents.{LeavesStill, AreNames}
+use Rattle.awari_folder.specs.Contents.{AreNames}
 use Rattle.awari_folder.specs.State.{Unchanged}
-use Rattle.awari_folder.specs.Migration.{LeavesWhole, KeepsFiles}
+use Rattle.awari_folder.specs.Migration.{CrashesWhole, KeepsFiles}
 use Rattle.awari_folder.proofs.Migrations.{HasCome}
 use Rattle.awari_folder.proofs.migrating.migrate.Given as goal
 
@@ -17,9 +17,8 @@ invariant-loop g l =
       come : (names others : ℕ → Option (List ℕ)) → AreNames ((from.state l.fn.from).stands) names → AreNames ((to.state l.fn.to).stands) others
           → HasCome names others ((to.state l.to).stands) l.counter l.shelf l.below l.limits.items l.digest;
       to_rest : (others : ℕ → Option (List ℕ)) → AreNames ((to.state l.fn.to).stands) others → (n : ℕ) → l.counter ≤ n → (to.state l.to).stands n ≡ Some (others n);
-      whole : (others : ℕ → Option (List ℕ)) → AreNames ((to.state l.fn.to).stands) others → LeavesWhole others ((to.state l.fn.to).may_leave) ((to.state l.to).may_leave);
+      whole : CrashesWhole (to.state l.fn.to) (to.state l.to);
       kept : KeepsFiles ((to.state l.fn.to).stands) ((to.state l.to).stands);
-      kept_still : LeavesStill ((to.state l.fn.to).may_leave) ((to.state l.to).may_leave);
       from_refused : (from.state l.from).refusals ≡ (from.state l.fn.from).refusals;
       to_refused : (to.state l.to).refusals ≡ (to.state l.fn.to).refusals;
       unchanged : Unchanged (from.state l.fn.from) (from.state l.from);

@@ -21,7 +21,7 @@ returns-in_err-migrated-in-Ok-Some-clause-exact g c = λ name other is.
 pub returns-in_err-migrated-in-Ok-Some-clause-reads : goal.returns-in_err-migrated-in-Ok-Some-clause-reads
 returns-in_err-migrated-in-Ok-Some-clause-reads g c =
     let p = err_from_is_err_and c.from_residual.result c.from_residual.ensures.1 in
-    only_reads _ _ _ c.open.ensures.unchanged (rw (p.1, p.2) (not_open c.in_err-migrated-in-Ok-Some.field-0.0 _ _ c.in_err-migrated-in-Ok-Some.ensures.of_file c.in-Ok-Some.ensures.refused))
+    only_reads _ _ _ c.open.ensures.unchanged (rw (p.1, p.2) (not_open c.in_err-migrated-in-Ok-Some.field-0.0 _ _ c.in_err-migrated-in-Ok-Some.ensures.refused.of_file c.in-Ok-Some.ensures.refused))
 
 pub returns-in_ok-migrated-in-Ok-Some-clause-reads : goal.returns-in_ok-migrated-in-Ok-Some-clause-reads
 returns-in_ok-migrated-in-Ok-Some-clause-reads g c = only_reads _ _ _ c.open.ensures.unchanged c.in-Ok-Some.ensures.refused

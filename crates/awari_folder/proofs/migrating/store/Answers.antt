@@ -6,9 +6,6 @@ use Rattle.awari_folder.proofs.Saved.{saves_after}
 use Rattle.awari_folder.proofs.States.{leaves_if_free}
 use Rattle.awari_folder.proofs.migrating.store.Goals as goal
 
-pub returns-clause-free : goal.returns-clause-free
-returns-clause-free g c = search rules
-
 pub returns-clause-fault : goal.returns-clause-fault
 returns-clause-fault g c = search rules
 
