@@ -1,4 +1,4 @@
-use Rattle.std.proofs.Common.{◌≡◌, Bool, IfOk, List, sym, subst}
+use Rattle.std.proofs.Common.{Bool, IfOk, sym, subst}
 use Rattle.awari_play.specs.Worths.{IsWeighed}
 use Rattle.awari_boards.specs.Known.{IsKnown}
 use Rattle.awari_boards.proofs.worths.weigh_board.Goals as goal
