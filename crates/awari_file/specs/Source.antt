@@ -19,7 +19,7 @@ IsWhy faults.Truncated known old new = IsAtEnd known
 IsWhy faults.Read known old new = Grew old new
 IsWhy e known old new = ⊥
 
--- Why no more bytes than so many came of those that were wanted: a fault of the reader is counted, and nothing else is.
+-- Why this many bytes came and not all that were wanted: a fault of the reader is counted, and nothing else is.
 pub record EndsFor (short : FileFault) (count wanted : ℕ) (known : Option (List ℕ)) (old new : ℕ) : Type 0 where
   pub why : count < wanted → IsWhy short known old new
   pub read : short ≡ faults.Read → Grew old new

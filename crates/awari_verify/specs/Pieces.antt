@@ -42,13 +42,13 @@ abbrev pub InTile : ℕ → ℕ → ℕ → List ℕ → Type 0
 InTile others first count p = (sum (drop 6 p) ≡ others) × (first ≤ other_filling p) × (other_filling p < first + count)
 
 -- the rank is the end while no breach is known, and else that of one before the end
-abbrev pub IsKnown : Table → ℕ → ℕ → Nearest → Type 0
-IsKnown t level end nearest = MatchOption nearest.rule (nearest.rank ≡ end) (λ rule. (nearest.rank < end) × IsBreach DistancesAreLeast t level nearest.rank rule)
+abbrev pub IsNearestBreach : Table → ℕ → ℕ → Nearest → Type 0
+IsNearestBreach t level end nearest = MatchOption nearest.rule (nearest.rank ≡ end) (λ rule. (nearest.rank < end) × IsBreach DistancesAreLeast t level nearest.rank rule)
 
 -- the boards of the level that are in here were looked at: those before the nearest breach are right
 pub record Looks (t : Table) (level : ℕ) (In : List ℕ → Type 0) (old new : Nearest) : Type 0 where
   pub nearer : new.rank ≤ old.rank
-  pub known : (end : ℕ) → IsKnown t level end old → IsKnown t level end new
+  pub known : (end : ℕ) → IsNearestBreach t level end old → IsNearestBreach t level end new
   pub right : (p : List ℕ) → IsBoard p → sum p ≡ level → In p → rank_of p < new.rank → IsRight t p
 
 -- those pieces of the level were looked at that the share names, and this is the nearest breach in them

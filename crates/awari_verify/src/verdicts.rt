@@ -80,7 +80,7 @@ impl From<AllocError> for VerifyFault {
 /// - 22 `Refused`: a board is not right by the table of the shelf with the image on top, or the limit
 ///   is not the greatest distance.
 ///
-/// It goes over the boards in order of rank, and takes no memory.
+/// It takes the boards by tiles, and names the one of the smallest rank. It takes no memory.
 pub fn verify(shelf: &Shelf, image: Image) -> Result<Level, VerifyFault>
     ensures ok { IsOk result ↔ Consistent shelf.now image }
     ensures level { IfOk result (λ level. level ≡ image) }
