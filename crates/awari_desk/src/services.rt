@@ -2,7 +2,7 @@
 
 ghost use Rattle.std.specs.Prelude.{◌≡◌, ◌++◌, ◌∷◌, [], ℕ, List, Option, OnOk, OnErr};
 ghost use Rattle.std.specs.Io.KnownBytes.{Appends};
-ghost use Rattle.awari_streams.specs.Counted.{inner_of, faults_of};
+ghost use Rattle.awari_streams.specs.Counted.{AppendsFront, inner_of, faults_of};
 ghost use Rattle.awari_desk.specs.Coming.{Holds, Serving, Responds, Feeds, Ends, Moves};
 ghost use Rattle.awari_desk.specs.Service.{IsInput, HasServed, HasServedWithin, HasBegun, HasBegunWithin};
 ghost use Rattle.awari_desk.specs.ServeFault.{TellsEnd, TellsWriter};
@@ -20,32 +20,15 @@ pub const LONGEST_INPUT: u32 = 100_000_000;
 /// How many bytes the input is asked for at once.
 const BUFFER_LEN: usize = 4096;
 
-/// Writes the bytes. If the writer refuses, it took a front of them.
-fn put<W: Write>(output: &mut Counted<W>, bytes: &[u8]) -> Result<(), ServeFault>
-    ensures wrote { OnOk result (Appends (W.contents (inner_of output.old)) (W.contents (inner_of output.new)) bytes.now) }
-    ensures partly { OnErr result ((front rest : List ℕ) × (bytes.now ≡ front ++ rest)
-        × Appends (W.contents (inner_of output.old)) (W.contents (inner_of output.new)) front) }
-    ensures told { TellsWriter result (faults_of output.old) (faults_of output.new) }
-{
-    let mut rest = bytes;
-    while !rest.is_empty() {
-        match output.write(rest) {
-            Ok(0) => return Err(ServeFault::Write),
-            Ok(count) => rest = &rest[count..],
-            Err(_) => return Err(ServeFault::Write),
-        }
-    }
-    Ok(())
-}
-
 /// Writes the bytes and has them passed on. If the writer refuses, it took a front of them.
 fn send<W: Write>(output: &mut Counted<W>, bytes: &[u8]) -> Result<(), ServeFault>
     ensures wrote { OnOk result (Appends (W.contents (inner_of output.old)) (W.contents (inner_of output.new)) bytes.now) }
-    ensures partly { OnErr result ((front rest : List ℕ) × (bytes.now ≡ front ++ rest)
-        × Appends (W.contents (inner_of output.old)) (W.contents (inner_of output.new)) front) }
+    ensures partly { OnErr result (AppendsFront (W.contents (inner_of output.old)) (W.contents (inner_of output.new)) bytes.now) }
     ensures told { TellsWriter result (faults_of output.old) (faults_of output.new) }
 {
-    put(output, bytes)?;
+    let Ok(()) = output.write_all(bytes) else {
+        return Err(ServeFault::Write);
+    };
     match output.flush() {
         Ok(()) => Ok(()),
         Err(_) => Err(ServeFault::Write),

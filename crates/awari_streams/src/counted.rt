@@ -172,18 +172,14 @@ impl<R: Read> Read for Counted<R> {
 }
 
 impl<W: Write> Write for Counted<W> {
-    ghost use Rattle.awari_streams.specs.Counted.{inner_of, faults_of, one_more};
+    ghost use Rattle.awari_streams.specs.Counted.{AppendsFront, CountsWrite, inner_of, faults_of, one_more};
 
     ghost contents = { λ c. W.contents (inner_of c) };
 
     fn write(&mut self, buf: &[u8]) -> io::Result<usize>
         ensures bound { WritesAtMost result buf.now }
         ensures bytes { WriteAppends (W.contents (inner_of self.old)) (W.contents (inner_of self.new)) result buf.now }
-        ensures ok { IfOk result (λ n. 0 < n → faults_of self.new ≡ faults_of self.old) }
-        ensures empty { OnOk result (length buf.now ≡ 0 → faults_of self.new ≡ faults_of self.old) }
-        ensures none { result ≡ Ok 0 → 0 < length buf.now → faults_of self.new ≡ one_more (faults_of self.old) }
-        ensures err { OnErr result (faults_of self.new ≡ one_more (faults_of self.old)) }
-        ensures never_less { faults_of self.old ≤ faults_of self.new }
+        ensures counted { CountsWrite (length buf.now) result (faults_of self.old) (faults_of self.new) }
         ensures retried { IfErr result (λ e. error_kind e ≢ ErrorKind.Interrupted) }
     {
         let count = self.repeat(&Writing(buf), &mut [])?;
@@ -205,6 +201,7 @@ impl<W: Write> Write for Counted<W> {
 
     fn write_all(&mut self, buf: &[u8]) -> io::Result<()>
         ensures bytes { OnOk result (Appends (W.contents (inner_of self.old)) (W.contents (inner_of self.new)) buf.now) }
+        ensures partly { OnErr result (AppendsFront (W.contents (inner_of self.old)) (W.contents (inner_of self.new)) buf.now) }
         ensures ok { OnOk result (faults_of self.new ≡ faults_of self.old) }
         ensures err { OnErr result (faults_of self.new ≡ one_more (faults_of self.old)) }
         ensures never_less { faults_of self.old ≤ faults_of self.new }
