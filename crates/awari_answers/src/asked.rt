@@ -77,50 +77,50 @@ impl NoAnswer {
     }
 
     /// Its name, or that of the fault inside it.
-    pub(crate) fn name(self) -> &'static [u8]
+    pub(crate) fn name(self) -> &'static str
         ensures name { result.now ≡ name_of self }
         ensures short { length result.now ≤ 20 }
     {
         match self {
             NoAnswer::Board { fault } => match fault {
-                BoardFault::Shape => b"Shape",
-                BoardFault::Number => b"Number",
-                BoardFault::TooMany => b"TooMany",
+                BoardFault::Shape => "Shape",
+                BoardFault::Number => "Number",
+                BoardFault::TooMany => "TooMany",
             },
             NoAnswer::Move { fault } | NoAnswer::MoveAt { fault, .. } => match fault {
-                MoveFault::NoPit => b"NoPit",
-                MoveFault::Ended => b"Ended",
-                MoveFault::EmptyPit => b"EmptyPit",
-                MoveFault::MustFeed => b"MustFeed",
+                MoveFault::NoPit => "NoPit",
+                MoveFault::Ended => "Ended",
+                MoveFault::EmptyPit => "EmptyPit",
+                MoveFault::MustFeed => "MustFeed",
             },
             NoAnswer::Folder { fault } => folder_name_of(fault),
-            NoAnswer::NotYet { .. } => b"NotYet",
+            NoAnswer::NotYet { .. } => "NotYet",
             NoAnswer::Line { fault } => match fault {
-                LineFault::NotYet { .. } => b"NotYet",
-                LineFault::Memory => b"Memory",
+                LineFault::NotYet { .. } => "NotYet",
+                LineFault::Memory => "Memory",
             },
-            NoAnswer::Memory => b"Memory",
-            NoAnswer::NoRank { .. } => b"NoRank",
-            NoAnswer::Overflow => b"Overflow",
-            NoAnswer::Span => b"Span",
-            NoAnswer::Column => b"Column",
+            NoAnswer::Memory => "Memory",
+            NoAnswer::NoRank { .. } => "NoRank",
+            NoAnswer::Overflow => "Overflow",
+            NoAnswer::Span => "Span",
+            NoAnswer::Column => "Column",
         }
     }
 }
 
 /// The name of a folder's fault. It takes no memory.
-pub fn folder_name_of(fault: FolderFault) -> &'static [u8]
+pub fn folder_name_of(fault: FolderFault) -> &'static str
     ensures name { result.now ≡ folder_name_of fault }
     ensures short { length result.now ≤ 20 }
 {
     match fault {
-        FolderFault::Below { .. } => b"Below",
-        FolderFault::File { .. } => b"File",
-        FolderFault::Open { .. } => b"Open",
-        FolderFault::Verify { .. } => b"Verify",
-        FolderFault::Memory => b"Memory",
-        FolderFault::Occupied { .. } => b"Occupied",
-        FolderFault::Old { .. } => b"Old",
+        FolderFault::Below { .. } => "Below",
+        FolderFault::File { .. } => "File",
+        FolderFault::Open { .. } => "Open",
+        FolderFault::Verify { .. } => "Verify",
+        FolderFault::Memory => "Memory",
+        FolderFault::Occupied { .. } => "Occupied",
+        FolderFault::Old { .. } => "Old",
     }
 }
 

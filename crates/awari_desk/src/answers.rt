@@ -11,7 +11,8 @@ use crate::oracles::Oracle;
 use crate::requests::LONGEST_REQUEST;
 use arrayvec::ArrayVec;
 use awari_board::{Board, BoardFault};
-use awari_play::{AnswerText, Weighed, refusal_json, text_of_line, weighed_json};
+use awari_members::{AnswerText, text_of_line};
+use awari_play::{Weighed, refusal_json, weighed_json};
 use awari_streams::{TextLine, numbered_line, push_text};
 use awari_table::{Entry, line_of_entry};
 
@@ -105,7 +106,7 @@ fn probe_number<O: Oracle>(fault: &ProbeFault<O::Fault>) -> u8
 }
 
 /// The name of the fault inside it.
-fn probe_name<O: Oracle>(fault: &ProbeFault<O::Fault>) -> &'static [u8]
+fn probe_name<O: Oracle>(fault: &ProbeFault<O::Fault>) -> &'static str
     ensures name { result.now ≡ probe_name_of O.answering fault.now }
     ensures short { length result.now ≤ 20 }
 {
@@ -115,14 +116,14 @@ fn probe_name<O: Oracle>(fault: &ProbeFault<O::Fault>) -> &'static [u8]
     }
 }
 
-fn board_name(fault: BoardFault) -> &'static [u8]
+fn board_name(fault: BoardFault) -> &'static str
     ensures name { result.now ≡ board_name_of fault }
     ensures short { length result.now ≤ 20 }
 {
     match fault {
-        BoardFault::Shape => b"Shape",
-        BoardFault::Number => b"Number",
-        BoardFault::TooMany => b"TooMany",
+        BoardFault::Shape => "Shape",
+        BoardFault::Number => "Number",
+        BoardFault::TooMany => "TooMany",
     }
 }
 

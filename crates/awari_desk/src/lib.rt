@@ -33,7 +33,8 @@ mod requests;
 mod services;
 
 pub use answers::Answer;
-pub use awari_play::{ANSWER_ROOM, AnswerText, Weighed, weigh};
+pub use awari_members::{ANSWER_ROOM, AnswerText};
+pub use awari_play::{Weighed, weigh};
 pub use books::{Book, Growing};
 pub use desks::{MOST_READERS, desk};
 pub use faults::{AskFault, DeskFault, ProbeFault, ServeFault};

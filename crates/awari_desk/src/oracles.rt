@@ -37,7 +37,7 @@ pub trait Oracle {
         ensures { result ≡ (answering).number fault.now };
 
     /// The name of a refusal, of at most 20 bytes.
-    fn name_of(fault: &Self::Fault) -> &'static [u8]
+    fn name_of(fault: &Self::Fault) -> &'static str
         ensures name { result.now ≡ (answering).name fault.now }
         ensures short { length result.now ≤ 20 };
 }

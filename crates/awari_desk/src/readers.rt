@@ -150,10 +150,10 @@ impl Oracle for Reader {
         fault.number()
     }
 
-    fn name_of(fault: &AskFault) -> &'static [u8] {
+    fn name_of(fault: &AskFault) -> &'static str {
         match fault {
-            AskFault::NotYet { .. } => b"NotYet",
-            AskFault::Gone => b"Gone",
+            AskFault::NotYet { .. } => "NotYet",
+            AskFault::Gone => "Gone",
         }
     }
 }

@@ -1,5 +1,5 @@
 -- Lines of boards, some written and some kept; and boards that are held.
-use Rattle.std.proofs.Common.{◌≡◌, ◌≤◌, ◌-◌, take, arith, ℕ, true, false, cond, length, List, [], ◌∷◌, ◌++◌, Option, sym, ◌∙◌, ap, subst, append_assoc, append-nil}
+use Rattle.std.proofs.Common.{◌≡◌, ◌≤◌, ◌-◌, take, arith, ℕ, true, false, cond, length, map, List, [], ◌∷◌, ◌++◌, Option, sym, ◌∙◌, ap, subst, append_assoc, append-nil}
 use Rattle.std.proofs.KnownBytes.{Appends-nil, Appends-trans}
 use Rattle.std.proofs.lemmas.Grind.{flat_map-append}
 use Rattle.std.proofs.Math.Seq.{take-append_seam}
@@ -8,7 +8,9 @@ use Rattle.std.specs.Fmt.{decimal}
 use Rattle.std.specs.Io.KnownBytes.{Appends}
 use Rattle.awari_table.specs.declared.images.Entry.{Entry}
 use Rattle.awari_table.specs.declared.images.Image.{Image}
-use Rattle.awari_play.specs.Json.{commas, entry_json, entry_members}
+use Rattle.awari_members.specs.Json.{commas}
+use Rattle.awari_members.specs.Members.{line_text, member_text}
+use Rattle.awari_play.specs.Json.{entry_json, entry_members}
 use Rattle.awari_queries.specs.declared.boards.Form.TheVariants.{Json}
 use Rattle.awari_levels.proofs.ChoiceLaws.{all, all_wanted}
 use Rattle.awari_levels.specs.Batches.{Passes}
@@ -80,8 +82,8 @@ numbers_are e f moves legal keep kept one two three = ap (λ (x : Entry). the_nu
 -- ---- an object that is not closed
 
 pub json-front : (board : List ℕ) (e : Entry) → entry_json board e ≡ stem_of Json board e ++ 125 ∷ 10 ∷ []
-unfolding entry_json stem_of
-json-front board e = ap (λ t. 123 ∷ t) (append_assoc (commas (entry_members board e)) (125 ∷ []) (10 ∷ []))
+unfolding entry_json line_text stem_of
+json-front board e = ap (λ t. 123 ∷ t) (append_assoc (commas (map (member_text Json) (entry_members board e))) (125 ∷ []) (10 ∷ []))
 
 pub front_long : (front items : List ℕ) (n : ℕ) → n ≡ length items → items ≡ front ++ 125 ∷ 10 ∷ [] → 2 ≤ n
 front_long front items n long is = omega (arith, long, ap length is, length-append front (125 ∷ 10 ∷ []))

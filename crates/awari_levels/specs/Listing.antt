@@ -12,7 +12,9 @@ use Rattle.awari_queries.specs.Draws.{draw_of, taken}
 use Rattle.awari_queries.specs.Holding.{first_by}
 use Rattle.awari_queries.specs.Orders.{key_of}
 use Rattle.awari_queries.specs.Spans.{has, is_in}
-use Rattle.awari_play.specs.Json.{commas, entry_members, member}
+use Rattle.awari_members.specs.Json.{commas, member}
+use Rattle.awari_members.specs.Members.{member_text}
+use Rattle.awari_play.specs.Json.{entry_members}
 use Rattle.awari_queries.specs.declared.boards.Form.{Form}
 use Rattle.awari_queries.specs.declared.boards.Form.TheVariants.{Text, Csv, Json}
 use Rattle.awari_queries.specs.declared.boards.Spans.{Spans}
@@ -35,7 +37,7 @@ plan_field (Some pit) = decimal pit
 unfoldable pub stem_of : Form → List ℕ → Entry → List ℕ
 stem_of Text board e = text_of board ++ 32 ∷ (signed_decimal e.value ++ 32 ∷ (plan_text e.plan ++ 32 ∷ decimal e.dist))
 stem_of Csv board e = 34 ∷ (text_of board ++ 34 ∷ 44 ∷ (signed_decimal e.value ++ 44 ∷ (plan_field e.plan ++ 44 ∷ decimal e.dist)))
-stem_of Json board e = 123 ∷ commas (entry_members board e)
+stem_of Json board e = 123 ∷ commas (map (member_text Json) (entry_members board e))
 
 -- a number on request behind it: behind a space, a comma, or as a member of this name
 unfoldable pub added_text : Form → List ℕ → Option ℕ → List ℕ

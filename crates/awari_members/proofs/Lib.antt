@@ -1,1 +1,2 @@
+pub mod JsonLaws
 pub mod MemberLaws

@@ -1,12 +1,13 @@
 -- Lines of members, by the parts that are written.
-use Rattle.std.proofs.Common.{◌≡◌, ℕ, List, [], ◌∷◌, ◌++◌, codes, map, ap, refl}
+use Rattle.std.proofs.Common.{◌≡◌, ℕ, ◌+◌, ◌<◌, suc, add-one, drop, get_or, length, sym, List, [], ◌∷◌, ◌++◌, codes, map, ap, append-nil, append_assoc, ◌∙◌, refl}
+use Rattle.std.proofs.Math.Seq.{drop-cons}
 use Rattle.std.specs.Fmt.{decimal}
+use Rattle.awari_members.specs.declared.lines.Member.{Member}
 use Rattle.std.specs.List.{flat_map}
-use Rattle.awari_play.specs.Json.{array, commas}
+use Rattle.awari_members.specs.Json.{array, commas, quoted}
 use Rattle.awari_queries.specs.declared.boards.Form.{Form}
 use Rattle.awari_queries.specs.declared.boards.Form.TheVariants.{Text, Csv, Json}
-use Rattle.awari_members.specs.Members.{joined_members, later_members, later_pits, line_text, member_text, pits_text, said, spaced}
-use Rattle.awari_members.specs.declared.lines.Member.{Member}
+use Rattle.awari_members.specs.Members.{Named, later_pits, line_text, mark_of, marked, member_text, name_in, pits_text, said, spaced}
 
 later_pits-are : (pits : List ℕ) → later_pits pits ≡ flat_map (λ t. 44 ∷ t) (map decimal pits)
 later_pits-are [] = refl
@@ -19,26 +20,57 @@ pits-are (pit ∷ pits) = ap (λ (t : List ℕ). decimal pit ++ t) (later_pits-a
 pub pits-array : (pits : List ℕ) → codes "[" ++ (pits_text pits ++ codes "]") ≡ array (map decimal pits)
 pits-array pits = ap (λ (t : List ℕ). 91 ∷ (t ++ 93 ∷ [])) (pits-are pits)
 
-later-are : (form : Form) (mark : ℕ) (members : List Member) → later_members form (mark ∷ []) members ≡ flat_map (λ t. mark ∷ t) (map (member_text form) (map said members))
-later-are form mark [] = refl
-later-are form mark (m ∷ members) = ap (λ (t : List ℕ). (mark ∷ member_text form (said m)) ++ t) (later-are form mark members)
+-- members behind a mark that stands between all
+later-are : (form : Form) (mark : ℕ) (members : List Named) → mark_of form ≡ mark ∷ [] → marked form (mark ∷ []) members ≡ flat_map (λ t. mark ∷ t) (map (member_text form) members)
+later-are form mark [] is = refl
+later-are form mark (m ∷ members) is = ap (λ (t : List ℕ). (mark ∷ member_text form m) ++ t) (ap (λ s. marked form s members) is ∙ later-are form mark members is)
 
-commas-are : (form : Form) (members : List Member) → joined_members form (codes ",") members ≡ commas (map (member_text form) (map said members))
-commas-are form [] = refl
-commas-are form (m ∷ members) = ap (λ (t : List ℕ). member_text form (said m) ++ t) (later-are form 44 members)
+commas-are : (form : Form) (members : List Named) → mark_of form ≡ 44 ∷ [] → marked form [] members ≡ commas (map (member_text form) members)
+commas-are form [] is = refl
+commas-are form (m ∷ members) is = ap (λ (t : List ℕ). member_text form m ++ t) (ap (λ s. marked form s members) is ∙ later-are form 44 members is)
 
-spaces-are : (members : List Member) → joined_members Text (codes " ") members ≡ spaced (map (member_text Text) (map said members))
+spaces-are : (members : List Named) → marked Text [] members ≡ spaced (map (member_text Text) members)
 spaces-are [] = refl
-spaces-are (m ∷ members) = ap (λ (t : List ℕ). member_text Text (said m) ++ t) (later-are Text 32 members)
+spaces-are (m ∷ members) = ap (λ (t : List ℕ). member_text Text m ++ t) (later-are Text 32 members refl)
 
-pub text-line : (members : List Member) → joined_members Text (codes " ") members ≡ line_text Text (map said members)
+pub text-line : (members : List Named) → marked Text [] members ≡ line_text Text members
 unfolding line_text
 text-line members = spaces-are members
 
-pub csv-line : (members : List Member) → joined_members Csv (codes ",") members ≡ line_text Csv (map said members)
+pub csv-line : (members : List Named) → marked Csv [] members ≡ line_text Csv members
 unfolding line_text
-csv-line members = commas-are Csv members
+csv-line members = commas-are Csv members refl
 
-pub json-line : (members : List Member) → codes "{" ++ (joined_members Json (codes ",") members ++ codes "}") ≡ line_text Json (map said members)
+pub json-line : (members : List Named) → codes "{" ++ (marked Json [] members ++ codes "}") ≡ line_text Json members
 unfolding line_text
-json-line members = ap (λ (t : List ℕ). 123 ∷ (t ++ 125 ∷ [])) (commas-are Json members)
+json-line members = ap (λ (t : List ℕ). 123 ∷ (t ++ 125 ∷ [])) (commas-are Json members refl)
+
+-- an object behind its brace
+pub json-closed : (m : Named) (members : List Named) → marked Json (codes "{") (m ∷ members) ++ codes "}" ≡ line_text Json (m ∷ members)
+json-closed m members = json-line (m ∷ members)
+
+-- members behind members
+pub marked-append : (form : Form) (mark : List ℕ) (m : Named) (members others : List Named) → marked form mark (m ∷ members ++ others) ≡ marked form mark (m ∷ members) ++ marked form (mark_of form) others
+marked-append form mark m [] others =
+    ap (λ (t : List ℕ). mark ++ t) (ap (λ (t : List ℕ). t ++ marked form (mark_of form) others) (sym (append-nil (member_text form m)))) ∙ sym (append_assoc mark (member_text form m ++ []) (marked form (mark_of form) others))
+marked-append form mark m (n ∷ members) others =
+    ap (λ (t : List ℕ). mark ++ (member_text form m ++ t)) (marked-append form (mark_of form) n members others)
+    ∙ ap (λ (t : List ℕ). mark ++ t) (sym (append_assoc (member_text form m) (marked form (mark_of form) (n ∷ members)) (marked form (mark_of form) others)))
+    ∙ sym (append_assoc mark (member_text form m ++ marked form (mark_of form) (n ∷ members)) (marked form (mark_of form) others))
+
+-- a name and a value
+pub member-parts : (form : Form) (m : Named) → name_in form m.name ++ m.value form ≡ member_text form m
+member-parts Text m = append_assoc m.name (32 ∷ []) (m.value Text)
+member-parts Csv m = refl
+member-parts Json m = append_assoc (quoted m.name) (58 ∷ []) (m.value Json)
+
+-- one member more behind a text
+pub marked-on : (form : Form) (mark next : List ℕ) (members : List Member) (i : ℕ) (m : Member) (done all : List ℕ) → i < length members → get_or members i m ≡ m → next ≡ mark_of form
+    → done ++ marked form mark (map said (drop i members)) ≡ all → (done ++ (mark ++ member_text form (said m))) ++ marked form next (map said (drop (i + 1) members)) ≡ all
+marked-on form mark next members i m done all inside own is so_far =
+    append_assoc done (mark ++ member_text form (said m)) _ ∙ ap (λ (t : List ℕ). done ++ t) (append_assoc mark (member_text form (said m)) _)
+    ∙ ap (λ (s : List ℕ). done ++ (mark ++ (member_text form (said m) ++ marked form s (map said (drop (i + 1) members))))) is
+    ∙ ap (λ (ms : List Member). done ++ marked form mark (map said ms)) (sym front) ∙ so_far
+  where
+    front : drop i members ≡ m ∷ drop (i + 1) members
+    front = rw (add-one, drop-cons members i m inside) (ap (λ (x : Member). x ∷ drop (suc i) members) own)

@@ -1,1 +1,2 @@
+pub mod Json
 pub mod Members

@@ -1,9 +1,9 @@
 -- Lines that are lists of members: a member has a name and a value.
-use Rattle.std.specs.Prelude.{ℕ, ◌==◌, if◌then◌else◌, List, [], ◌∷◌, ◌++◌, map, codes, ℤ}
+use Rattle.std.specs.Prelude.{ℕ, ◌+◌, ◌*◌, ◌==◌, if◌then◌else◌, Bool, List, [], ◌∷◌, ◌++◌, length, map, sum_by, codes, ℤ, Option, None, Some}
 use Rattle.std.specs.Fmt.{decimal, signed_decimal}
 use Rattle.std.specs.List.{flat_map}
 use Rattle.awari_board.specs.Text.{text_of}
-use Rattle.awari_play.specs.Json.{array, commas, member, object, quoted}
+use Rattle.awari_members.specs.Json.{array, commas, member, object, quoted, truth_text}
 use Rattle.awari_queries.specs.declared.boards.Form.{Form}
 use Rattle.awari_queries.specs.declared.boards.Form.TheVariants.{Text, Csv, Json}
 use Rattle.awari_members.specs.declared.lines.Member.{Member}
@@ -30,7 +30,12 @@ missing Text = codes "-"
 missing Csv = []
 missing Json = codes "null"
 
--- members with a number, with a number that has a sign, with a text, with a board, and with pits
+-- a pit, if there is one
+abbrev pub pit_in : Option ℕ → Form → List ℕ
+pit_in None = missing
+pit_in (Some pit) = λ form. decimal pit
+
+-- members with a number, with a number that has a sign, with a text, with a board, with pits, with a pit or none, and with a truth
 abbrev pub number : List ℕ → ℕ → Named
 number name n = record { name = name; value = λ form. decimal n }
 
@@ -46,12 +51,19 @@ text name bytes = record { name = name; value = string bytes }
 abbrev pub pits : List ℕ → List ℕ → Named
 pits name moves = record { name = name; value = pits_in moves }
 
+abbrev pub pit : List ℕ → Option ℕ → Named
+pit name p = record { name = name; value = pit_in p }
+
+abbrev pub truth : List ℕ → Bool → Named
+truth name b = record { name = name; value = λ form. truth_text b }
+
 abbrev pub value_text : Value → Form → List ℕ
 value_text (value.Number n) = λ form. decimal n
 value_text (value.Signed n) = λ form. signed_decimal n
 value_text (value.Text text) = string text.now
 value_text (value.Board pits) = string (text_of pits)
 value_text (value.Pits pits) = pits_in pits.now
+value_text (value.Truth b) = λ form. truth_text b
 value_text value.Missing = missing
 
 abbrev pub said : Member → Named
@@ -78,13 +90,24 @@ line_text Json members = object (map (member_text Json) members)
 abbrev pub share_line : (ℕ → List ℕ) → ℕ → List ℕ
 share_line shown boards = if boards == 0 then [] else shown boards ++ 10 ∷ []
 
--- Fronts of these texts. Private functions alone go by them: no public contract does.
-abbrev pub later_members : Form → List ℕ → List Member → List ℕ
-later_members form mark members = flat_map (λ m. mark ++ member_text form (said m)) members
+-- Fronts of these texts. No public contract goes by them, but for that of `push_members`.
 
-abbrev pub joined_members : Form → List ℕ → List Member → List ℕ
-joined_members form mark [] = []
-joined_members form mark (m ∷ members) = member_text form (said m) ++ later_members form mark members
+-- what stands between two members
+abbrev pub mark_of : Form → List ℕ
+mark_of Text = codes " "
+mark_of Csv = codes ","
+mark_of Json = codes ","
+
+-- members with those marks between them, behind this one
+abbrev pub marked : Form → List ℕ → List Named → List ℕ
+marked form mark [] = []
+marked form mark (m ∷ members) = mark ++ (member_text form m ++ marked form (mark_of form) members)
+
+-- a name, and what stands behind it
+abbrev pub name_in : Form → List ℕ → List ℕ
+name_in Text name = name ++ codes " "
+name_in Csv name = []
+name_in Json name = quoted name ++ codes ":"
 
 abbrev pub later_pits : List ℕ → List ℕ
 later_pits pits = flat_map (λ pit. codes "," ++ decimal pit) pits
@@ -92,3 +115,20 @@ later_pits pits = flat_map (λ pit. codes "," ++ decimal pit) pits
 abbrev pub pits_text : List ℕ → List ℕ
 pits_text [] = []
 pits_text (pit ∷ pits) = decimal pit ++ later_pits pits
+
+-- the most bytes that a value takes
+abbrev pub width : Value → ℕ
+width (value.Number n) = 20
+width (value.Signed n) = 21
+width (value.Text text) = length text.now + 2
+width (value.Board pits) = 37
+width (value.Pits pits) = 21 * length pits.now + 2
+width (value.Truth b) = 5
+width value.Missing = 4
+
+-- the most bytes that members take, each behind a mark
+abbrev pub room_for : Member → ℕ
+room_for m = 4 + length m.name.now + width m.value
+
+abbrev pub room_of : List Member → ℕ
+room_of members = sum_by room_for members

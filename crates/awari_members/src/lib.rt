@@ -1,6 +1,7 @@
 //! Lines that are lists of members. A member has a name and a value. Such a line is printed in one of three
 //! forms: names and values with spaces between them, values with commas, or a JSON object. All forms are of one
-//! list, so the object has the names of the line, in its order.
+//! list, so the object has the names of the line, in its order. A [`Line`] is written to any writer;
+//! [`push_members`] puts members into a text in place, which takes no memory.
 //!
 //! Members as a line or as an object, in `crates/awari_answers/src/printing.rt`:
 //!
@@ -12,8 +13,12 @@
 //!     }
 #![tactic(auto)]
 
+mod in_place;
 mod lines;
+mod texts;
 mod values;
 
+pub use in_place::{push_comma, push_members};
 pub use lines::{Line, Member};
+pub use texts::{ANSWER_ROOM, AnswerText, hex_digit, push_bytes, push_string, text_of_line};
 pub use values::Value;

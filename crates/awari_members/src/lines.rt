@@ -1,7 +1,7 @@
 //! Lines of members.
 
-ghost use Rattle.std.specs.Prelude.{◌≡◌};
-ghost use Rattle.awari_members.specs.Members.{board, number, pits, said, signed, text};
+ghost use Rattle.std.specs.Prelude.{◌≡◌, ◌≤◌, ◌+◌, ◌*◌, length};
+ghost use Rattle.awari_members.specs.Members.{board, mark_of, number, pit, pits, room_for, said, signed, text, truth};
 
 use crate::values::{InForm, Value};
 use awari_board::Board;
@@ -20,7 +20,8 @@ pub struct Member<'a> {
 impl<'a> Member<'a> {
     /// A member with a number.
     pub fn number(name: &'a str, value: u64) -> Member<'a>
-        ensures { said result ≡ number name.entry.now value }
+        ensures said { said result ≡ number name.entry.now value }
+        ensures room { room_for result ≡ length name.entry.now + 24 }
     {
         Member {
             name,
@@ -30,7 +31,8 @@ impl<'a> Member<'a> {
 
     /// A member with a number that has a sign.
     pub fn signed(name: &'a str, value: i64) -> Member<'a>
-        ensures { said result ≡ signed name.entry.now value }
+        ensures said { said result ≡ signed name.entry.now value }
+        ensures room { room_for result ≡ length name.entry.now + 25 }
     {
         Member {
             name,
@@ -40,7 +42,8 @@ impl<'a> Member<'a> {
 
     /// A member with a text of bytes that stand for themselves in JSON.
     pub fn text(name: &'a str, value: &'a str) -> Member<'a>
-        ensures { said result ≡ text name.entry.now value.entry.now }
+        ensures said { said result ≡ text name.entry.now value.entry.now }
+        ensures room { room_for result ≡ length name.entry.now + (6 + length value.entry.now) }
     {
         Member {
             name,
@@ -50,7 +53,8 @@ impl<'a> Member<'a> {
 
     /// A member with pits that are played one after the other.
     pub fn pits(name: &'a str, value: &'a [u8]) -> Member<'a>
-        ensures { said result ≡ pits name.entry.now value.entry.now }
+        ensures said { said result ≡ pits name.entry.now value.entry.now }
+        ensures room { room_for result ≡ length name.entry.now + (6 + 21 * length value.entry.now) }
     {
         Member {
             name,
@@ -60,11 +64,37 @@ impl<'a> Member<'a> {
 
     /// A member with a board.
     pub fn board(name: &'a str, value: Board) -> Member<'a>
-        ensures { said result ≡ board name.entry.now value }
+        ensures said { said result ≡ board name.entry.now value }
+        ensures room { room_for result ≡ length name.entry.now + 41 }
     {
         Member {
             name,
             value: Value::Board(value),
+        }
+    }
+
+    /// A member with a pit, if there is one.
+    pub fn pit(name: &'a str, value: Option<u8>) -> Member<'a>
+        ensures said { said result ≡ pit name.entry.now value }
+        ensures room { room_for result ≤ length name.entry.now + 24 }
+    {
+        match value {
+            Some(pit) => Member::number(name, u64::from(pit)),
+            None => Member {
+                name,
+                value: Value::Missing,
+            },
+        }
+    }
+
+    /// A member that is true or false.
+    pub fn truth(name: &'a str, value: bool) -> Member<'a>
+        ensures said { said result ≡ truth name.entry.now value }
+        ensures room { room_for result ≡ length name.entry.now + 9 }
+    {
+        Member {
+            name,
+            value: Value::Truth(value),
         }
     }
 }
@@ -85,53 +115,44 @@ impl fmt::Display for Line<'_> {
     ghost output = { λ line. Some (line_text line.form (map said line.members.now)) };
 
     fn fmt<W: fmt::Write>(&self, f: &mut fmt::Formatter<W>) -> fmt::Result {
-        let form = self.form;
-        match form {
-            Form::Text => write!(f, "{}", Joined(self.members, form, " ")),
-            Form::Csv => write!(f, "{}", Joined(self.members, form, ",")),
-            Form::Json => write!(f, "{{{}}}", Joined(self.members, form, ",")),
+        let members = Marked(self.members, self.form);
+        match self.form {
+            Form::Text => write!(f, "{members}"),
+            Form::Csv => write!(f, "{members}"),
+            Form::Json => write!(f, "{{{members}}}"),
         }
     }
 }
 
-/// Members in a form, with a mark between them.
+/// Members in a form, with marks between them.
 #[derive(Clone, Copy)]
-struct Joined<'a>(&'a [Member<'a>], Form, &'static str);
+struct Marked<'a>(&'a [Member<'a>], Form);
 
-impl fmt::Display for Joined<'_> {
-    ghost use Rattle.std.specs.Prelude.{Some};
-    ghost use Rattle.awari_members.specs.Members.{joined_members};
+impl fmt::Display for Marked<'_> {
+    ghost use Rattle.std.specs.Prelude.{[], Some, map};
+    ghost use Rattle.awari_members.specs.Members.{marked, said};
 
-    ghost output = { λ joined. Some (joined_members joined.1 joined.2.now joined.0.now) };
+    ghost output = { λ shown. Some (marked shown.1 [] (map said shown.0.now)) };
 
     fn fmt<W: fmt::Write>(&self, f: &mut fmt::Formatter<W>) -> fmt::Result {
-        let Joined(members, form, mark) = *self;
-        match members {
-            [] => Ok(()),
-            [first, later @ ..] => {
-                let first = Placed(first, form);
-                write!(f, "{first}{}", Later(later, form, mark))
-            }
-        }
-    }
-}
-
-/// Members behind another. Each is printed behind the mark.
-#[derive(Clone, Copy)]
-struct Later<'a>(&'a [Member<'a>], Form, &'static str);
-
-impl fmt::Display for Later<'_> {
-    ghost use Rattle.std.specs.Prelude.{Some};
-    ghost use Rattle.awari_members.specs.Members.{later_members};
-
-    ghost output = { λ later. Some (later_members later.1 later.2.now later.0.now) };
-
-    fn fmt<W: fmt::Write>(&self, f: &mut fmt::Formatter<W>) -> fmt::Result {
-        let Later(members, form, mark) = *self;
+        let Marked(members, form) = *self;
+        let mut mark = "";
         for member in members {
             write!(f, "{mark}{}", Placed(member, form))?;
+            mark = mark_of(form);
         }
         Ok(())
+    }
+}
+
+/// What stands between two members.
+pub(crate) fn mark_of(form: Form) -> &'static str
+    ensures mark { result.now ≡ mark_of form }
+    ensures short { length result.now ≤ 1 }
+{
+    match form {
+        Form::Text => " ",
+        Form::Csv | Form::Json => ",",
     }
 }
 

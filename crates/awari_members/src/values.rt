@@ -1,6 +1,8 @@
 //! The values of members.
 
-ghost use Rattle.std.specs.Prelude.{◌≡◌};
+ghost use Rattle.std.specs.Prelude.{◌≡◌, ◌≤◌, length};
+ghost use Rattle.awari_members.specs.Json.{truth_text};
+ghost use Rattle.awari_members.specs.Members.{missing};
 
 use awari_board::Board;
 use awari_queries::Form;
@@ -19,6 +21,8 @@ pub enum Value<'a> {
     Board(Board),
     /// Pits that are played one after the other.
     Pits(&'a [u8]),
+    /// True or false.
+    Truth(bool),
     /// There is none.
     Missing,
 }
@@ -47,12 +51,28 @@ impl fmt::Display for InForm<'_> {
                 Form::Text | Form::Csv => write!(f, "{board}"),
             },
             Value::Pits(pits) => write!(f, "[{}]", Pits(pits)),
-            Value::Missing => match form {
-                Form::Text => write!(f, "-"),
-                Form::Csv => write!(f, ""),
-                Form::Json => write!(f, "null"),
-            },
+            Value::Truth(truth) => write!(f, "{}", truth_text(truth)),
+            Value::Missing => write!(f, "{}", missing(form)),
         }
+    }
+}
+
+pub(crate) fn truth_text(truth: bool) -> &'static str
+    ensures text { result.now ≡ truth_text truth }
+    ensures short { length result.now ≤ 5 }
+{
+    if truth { "true" } else { "false" }
+}
+
+/// What stands for no value.
+pub(crate) fn missing(form: Form) -> &'static str
+    ensures text { result.now ≡ missing form }
+    ensures short { length result.now ≤ 4 }
+{
+    match form {
+        Form::Text => "-",
+        Form::Csv => "",
+        Form::Json => "null",
     }
 }
 

@@ -7,9 +7,6 @@ use Rattle.std.proofs.lemmas.List.{take_more}
 use Rattle.awari_play.specs.declared.weighing.WeighedMove.{WeighedMove}
 use Rattle.awari_play.specs.Worths.{move_line, move_lines}
 
-pub twenty_digits : (n : ℕ) → n < 2 ^ 64 → length (decimal n) ≤ 20
-twenty_digits n h = length-decimal-le 20 n (omega arith) (omega (arith, h)) h
-
 -- one line more
 pub move_lines-more : (plan : Option ℕ) (moves : List WeighedMove) (i : ℕ) (m : WeighedMove) (before after : List ℕ) → i < length moves → get_or moves i m ≡ m
     → before ≡ move_lines plan (take i moves) → after ≡ before ++ move_line plan m → after ≡ move_lines plan (take (i + 1) moves)

@@ -1,13 +1,15 @@
 -- What a shelf says of the legal moves of a board, and the lines that tell it.
 use Rattle.std.specs.Prelude.{◌≡◌, ◌↔◌, ℕ, ◌<◌, ◌==◌, if◌then◌else◌, Bool, true, false, List, All, Contains, ◌++◌, ◌∷◌, [], length, map, sum, count_by, codes, ℤ, Option, Some, None}
-use Rattle.std.specs.Fmt.{decimal, signed_decimal}
+use Rattle.std.specs.Fmt.{signed_decimal}
 use Rattle.std.specs.List.{flat_map}
 use Rattle.std.specs.List.Sorted.{IsStrictlyIncreasing}
 use Rattle.std.specs.Ordering.{int_eq}
 use Rattle.awari_board.specs.Rules.{IsLegal, IsMove}
+use Rattle.awari_members.specs.Members.{Named, line_text, number, signed}
 use Rattle.awari_play.specs.MoveWorth.{IsMoveWorth, pit_of}
 use Rattle.awari_play.specs.declared.replies.Replies.{Replies}
 use Rattle.awari_play.specs.declared.worths.MoveWorth.{MoveWorth}
+use Rattle.awari_queries.specs.declared.boards.Form.TheVariants.{Text}
 use Rattle.awari_table.specs.Images.{entry_of, table_of}
 use Rattle.awari_table.specs.declared.images.Entry.{Entry}
 use Rattle.awari_table.specs.declared.images.Image.{Image}
@@ -53,14 +55,14 @@ pub record IsWeighed (asked : Bool) (shelf : List Image) (board : List ℕ) (w :
 abbrev pub plan_mark : Bool → List ℕ
 plan_mark is_plan = if is_plan then codes " plan" else codes ""
 
-abbrev pub replies_mark : Option Replies → List ℕ
-replies_mark None = codes ""
-replies_mark (Some replies) = codes " replies " ++ decimal replies.all ++ codes " keep " ++ decimal replies.keep
+abbrev pub replies_members : Option Replies → List Named
+replies_members None = []
+replies_members (Some replies) = number (codes "replies") replies.all ∷ number (codes "keep") replies.keep ∷ []
 
--- what is said of a move's worth
-abbrev pub worth_text : MoveWorth → List ℕ
-worth_text w = codes "pit " ++ decimal w.pit ++ codes " captures " ++ decimal w.captured ++ codes " value " ++ signed_decimal w.value
-    ++ codes " distance " ++ decimal w.plies
+-- what is said of a move
+abbrev pub worth_members : WeighedMove → List Named
+worth_members m = number (codes "pit") m.worth.pit ∷ number (codes "captures") m.worth.captured ∷ signed (codes "value") m.worth.value
+    ∷ number (codes "distance") m.worth.plies ∷ replies_members m.replies
 
 -- whether the pit is the plan
 abbrev pub is_planned : Option ℕ → ℕ → Bool
@@ -69,7 +71,7 @@ is_planned (Some plan) pit = plan == pit
 
 -- the line of a move, with its line feed (10)
 abbrev pub move_line : Option ℕ → WeighedMove → List ℕ
-move_line plan m = worth_text m.worth ++ replies_mark m.replies ++ plan_mark (is_planned plan m.worth.pit) ++ 10 ∷ []
+move_line plan m = line_text Text (worth_members m) ++ plan_mark (is_planned plan m.worth.pit) ++ 10 ∷ []
 
 unfoldable pub move_lines : Option ℕ → List WeighedMove → List ℕ
 move_lines plan moves = flat_map (move_line plan) moves

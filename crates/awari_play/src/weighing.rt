@@ -3,6 +3,7 @@
 ghost use Rattle.std.specs.Prelude.{◌≡◌, ◌≤◌, ◌<◌, ◌+◌, ◌++◌, ◌↔◌, IsOk, IfOk, IfErr, length, sum, All, map, Bool, true};
 ghost use Rattle.arrayvec.specs.ArrayVec.{array_vec_len};
 ghost use Rattle.awari_board.specs.Rules.{IsLegal};
+ghost use Rattle.awari_members.specs.Members.{marked};
 ghost use Rattle.awari_play.specs.Worths.{
   AreWorths,
   IsReplied,
@@ -12,18 +13,18 @@ ghost use Rattle.awari_play.specs.Worths.{
   move_line,
   move_lines,
   plan_mark,
-  replies_mark,
   weighed_text,
   worth_in,
-  worth_text,
+  worth_members,
 };
 
 use crate::replies::{Replies, replies_to};
-use crate::texts::{ANSWER_ROOM, AnswerText, push_bytes, text_of_line};
 use crate::worths::{MoveWorth, move_worths};
 use arrayvec::ArrayVec;
 use awari_board::Board;
-use awari_table::{Entry, NotYet, Shelf, TextLine, push_number, push_signed, push_text};
+use awari_members::{ANSWER_ROOM, AnswerText, Member, push_bytes, push_members, text_of_line};
+use awari_queries::Form;
+use awari_table::{Entry, NotYet, Shelf, TextLine, push_signed, push_text};
 
 /// A legal move of a board that was weighed.
 #[derive(Clone, Copy, Debug, Default, PartialEq, Eq)]
@@ -124,49 +125,39 @@ fn lines_of(plan: Option<u8>, moves: &[WeighedMove]) -> AnswerText
 
 /// Puts the line of a move behind others.
 fn push_move(text: &mut AnswerText, plan: Option<u8>, weighed: WeighedMove)
-    requires { array_vec_len text.old + 92 ≤ ANSWER_ROOM }
+    requires { array_vec_len text.old + 186 ≤ ANSWER_ROOM }
     ensures items { text.new.items ≡ text.old.items ++ move_line plan weighed }
-    ensures len { array_vec_len text.new ≤ array_vec_len text.old + 92 }
+    ensures len { array_vec_len text.new ≤ array_vec_len text.old + 186 }
 {
-    push_bytes(text, worth_text(weighed.worth).as_slice());
-    push_bytes(text, replies_mark(weighed.replies).as_slice());
+    push_worth(text, Form::Text, b"", weighed);
     push_bytes(text, plan_mark(is_planned(plan, weighed.worth.pit)));
     text.push(b'\n');
 }
 
-/// What is said of a move's worth.
-#[tactic(auto, using(awari_streams::proofs::Digits::three_digits, crate::proofs::WorthLines::twenty_digits))]
-fn worth_text(worth: MoveWorth) -> TextLine
-    ensures items { result.items ≡ worth_text worth }
-    ensures len { array_vec_len result ≤ 63 }
+/// Puts what is said of a move, with a mark before it.
+pub(crate) fn push_worth(text: &mut AnswerText, form: Form, mark: &[u8], weighed: WeighedMove)
+    requires short { length mark.now ≤ 1 }
+    requires room { array_vec_len text.old + 180 ≤ ANSWER_ROOM }
+    ensures items { text.new.items ≡ text.old.items ++ marked form mark.now (worth_members weighed) }
+    ensures len { array_vec_len text.new ≤ array_vec_len text.old + 180 }
 {
-    let mut line = TextLine::new();
-    push_text(&mut line, b"pit ");
-    push_number(&mut line, u64::from(worth.pit));
-    push_text(&mut line, b" captures ");
-    push_number(&mut line, u64::from(worth.captured));
-    push_text(&mut line, b" value ");
-    push_signed(&mut line, worth.value);
-    push_text(&mut line, b" distance ");
-    push_number(&mut line, worth.plies);
-    line
-}
-
-/// What is said of the replies to a move.
-#[tactic(auto, using(awari_streams::proofs::Digits::three_digits))]
-fn replies_mark(replies: Option<Replies>) -> TextLine
-    ensures items { result.items ≡ replies_mark replies }
-    ensures len { array_vec_len result ≤ 23 }
-{
-    let mut line = TextLine::new();
+    let WeighedMove { worth, replies } = weighed;
+    let pit = Member::number("pit", u64::from(worth.pit));
+    let captures = Member::number("captures", u64::from(worth.captured));
+    let value = Member::signed("value", i64::from(worth.value));
+    let distance = Member::number("distance", worth.plies);
     let Some(replies) = replies else {
-        return line;
+        push_members(text, form, mark, &[pit, captures, value, distance]);
+        return;
     };
-    push_text(&mut line, b" replies ");
-    push_number(&mut line, u64::from(replies.all));
-    push_text(&mut line, b" keep ");
-    push_number(&mut line, u64::from(replies.keep));
-    line
+    let all = Member::number("replies", u64::from(replies.all));
+    let keep = Member::number("keep", u64::from(replies.keep));
+    push_members(
+        text,
+        form,
+        mark,
+        &[pit, captures, value, distance, all, keep],
+    );
 }
 
 /// What marks the plan.

@@ -19,3 +19,6 @@ five_digits n h = length-decimal-le 5 n (omega arith) (omega (arith, h)) (omega 
 
 pub ten_digits : (n : ℕ) → n < 2 ^ 32 → length (decimal n) ≤ 10
 ten_digits n h = length-decimal-le 10 n (omega arith) (omega (arith, h)) (omega (arith, h))
+
+pub twenty_digits : (n : ℕ) → n < 2 ^ 64 → length (decimal n) ≤ 20
+twenty_digits n h = length-decimal-le 20 n (omega arith) (omega (arith, h)) h

@@ -65,9 +65,9 @@ impl<F: Folder> Oracle for Files<'_, F> {
         }
     }
 
-    fn name_of(fault: &Unsaid) -> &'static [u8] {
+    fn name_of(fault: &Unsaid) -> &'static str {
         match fault {
-            Unsaid::NotYet { .. } => b"NotYet",
+            Unsaid::NotYet { .. } => "NotYet",
             Unsaid::Folder { fault } => folder_name_of(*fault),
         }
     }

@@ -8,4 +8,4 @@ pub returns : goal.returns
 unfolding Rattle.awari_boards.specs.Plies.shown_repeat
 returns g c = λ done.
     subst (λ (members : List Named). Appends (g.W.Write.contents c.args.writer.now) (g.W.Write.contents c.print_members.new.writer) (line_text (form_of c.args.json false) members ++ 10 ∷ []))
-    (rw (c.number.ensures) refl) (c.print_members.ensures done)
+    (rw (c.number.ensures.said) refl) (c.print_members.ensures done)

@@ -1,7 +1,8 @@
 use Rattle.std.proofs.Common.{◌∙◌, ◌++◌, ap, arith, map}
 use Rattle.std.proofs.lemmas.List.{get_or_default, take_all}
-use Rattle.awari_play.specs.Json.{commas, move_json, moves_json}
-use Rattle.awari_play.proofs.JsonLaws.{commas-behind}
+use Rattle.awari_members.specs.Json.{commas}
+use Rattle.awari_play.specs.Json.{move_json}
+use Rattle.awari_members.proofs.JsonLaws.{commas-behind}
 use Rattle.awari_play.proofs.json.push_moves.Goals as goal
 
 pub loop-index-preserved : goal.loop-index-preserved
@@ -12,7 +13,6 @@ loop-index-preserved c =
     }
 
 pub returns-clause-items : goal.returns-clause-items
-unfolding moves_json
 returns-clause-items c =
     c.loop-index.invariant.items
     ∙ ap (λ moves. c.args.text.now.items ++ commas (map (move_json c.args.plan) moves)) (take_all c.loop-index.index c.args.moves.now (omega (arith, c.loop-index-test.false)))

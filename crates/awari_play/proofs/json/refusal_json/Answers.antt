@@ -1,13 +1,19 @@
 use Rattle.std.proofs.Common.{◌∙◌, ◌∷◌, ◌++◌, [], ap}
-use Rattle.std.specs.Fmt.{decimal}
 use Rattle.std.specs.Prelude.{codes}
-use Rattle.awari_play.specs.Json.{json_string, member, quoted}
-use Rattle.awari_play.proofs.JsonLaws.{append_five, refusal_json-parts}
+use Rattle.awari_members.proofs.JsonLaws.{append_two}
+use Rattle.awari_members.specs.Json.{json_string}
+use Rattle.awari_members.specs.Members.{Named, marked, number, said}
+use Rattle.awari_play.proofs.JsonLaws.{refusal_json-parts}
+use Rattle.awari_queries.specs.declared.boards.Form.TheVariants.{Json}
 use Rattle.awari_play.proofs.json.refusal_json.Goals as goal
 
 pub returns : goal.returns
 returns c =
-    append_five [] (codes "{\"request\":") (json_string c.args.request.now) (44 ∷ member (codes "refused") (decimal c.args.number)) (44 ∷ member (codes "name") (quoted c.args.name.now)) (codes "}\n") _ _ _ _ _
-    (c.push_bytes.ensures.items ∙ ap (λ t. t ++ codes "{\"request\":") c.new-text.ensures) c.push_string.ensures.items
-    (c.push_number_member.ensures.items ∙ ap (λ n. c.push_string.new.text.items ++ 44 ∷ member (codes "refused") (decimal n)) c.from.ensures) c.push_quoted_member.ensures.items c.push_bytes-2.ensures.items
+    append_two [] (codes "{\"request\":") _ _ _ (c.push_bytes.ensures.items ∙ ap (λ t. t ++ codes "{\"request\":") c.new-text.ensures)
+    (append_two c.push_bytes.new.text.items (json_string c.args.request.now) _ _ _ c.push_string.ensures.items
+    (append_two c.push_string.new.text.items _ (codes "}\n") _ _
+    (c.push_members.ensures.items
+    ∙ ap (λ (m : Named). c.push_string.new.text.items ++ marked Json (codes ",") (m ∷ said c.text-name.result ∷ [])) (c.number-number.ensures.said ∙ ap (number (codes "refused")) c.from.ensures)
+    ∙ ap (λ (m : Named). c.push_string.new.text.items ++ marked Json (codes ",") (number (codes "refused") c.args.number ∷ m ∷ [])) c.text-name.ensures.said)
+    c.push_bytes-2.ensures.items))
     ∙ refusal_json-parts c.args.request.now c.args.number c.args.name.now

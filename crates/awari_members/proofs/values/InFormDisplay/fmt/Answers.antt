@@ -1,6 +1,6 @@
 use Rattle.std.proofs.Common.{◌≡◌, IsOk, List, ℕ, ap, map, subst, sym, ◌∙◌, rules}
 use Rattle.std.specs.Fmt.{HasWritten, IsPlainFormatter, decimal}
-use Rattle.awari_play.specs.Json.{array}
+use Rattle.awari_members.specs.Json.{array}
 use Rattle.awari_members.specs.Members.{value_text}
 use Rattle.awari_members.specs.declared.values.Value.{Value}
 use Rattle.awari_members.proofs.MemberLaws.{pits-array}

@@ -1,8 +1,8 @@
 use Rattle.std.proofs.Common.{◌≡◌, ◌≤◌, ◌+◌, ◌*◌, ◌++◌, ◌∷◌, take}
 use Rattle.std.specs.List.{flat_map}
 use Rattle.arrayvec.specs.ArrayVec.{array_vec_len}
-use Rattle.awari_play.specs.Json.{string_byte}
-use Rattle.awari_play.proofs.json.push_string.Given as goal
+use Rattle.awari_members.specs.Json.{string_byte}
+use Rattle.awari_members.proofs.texts.push_string.Given as goal
 
 abbrev pub invariant-loop-byte : goal.invariant-loop-byte
 invariant-loop-byte l = record {
