@@ -1,12 +1,13 @@
 -- The levels in a folder, the commands that ask them about one board, and why a command gives no answer.
 use Rattle.std.specs.Prelude.{◌≡◌, ℕ, List, ◌++◌, Option, codes, min, sum}
 use Rattle.std.specs.Fmt.{decimal}
-use Rattle.awari_board.specs.BoardFault.{fault_text as board_fault_text}
+use Rattle.awari_board.specs.BoardFault.{IsFaulty, fault_text as board_fault_text}
 use Rattle.awari_board.specs.MoveFault.{fault_text as move_fault_text}
 use Rattle.awari_board.specs.Rules.{IsBoard}
 use Rattle.awari_board.specs.Text.{text_of}
-use Rattle.awari_folder.specs.Contents.{IsStoredToIn}
+use Rattle.awari_folder.specs.Contents.{AreNames, IsFaultTo, IsStoredToIn}
 use Rattle.awari_folder.specs.FolderFault.{fault_text as folder_fault_text}
+use Rattle.awari_folder.specs.declared.faults.FolderFault.{FolderFault}
 use Rattle.awari_play.specs.LineFault.{fault_text as line_fault_text}
 use Rattle.awari_table.specs.NotYet.{fault_text as not_yet_text}
 use Rattle.awari_table.specs.Shelves.{IsShelf}
@@ -21,11 +22,21 @@ pub record AreLevelsTo (most : ℕ) (stands : ℕ → Option (Option (List ℕ))
   pub stored : IsStoredToIn most stands images digest
   pub right : IsShelf images
 
+-- Where it is known what the names have, this is the first fault of the levels up to this one.
+abbrev pub IsUnloaded : Type 0 → ℕ → (ℕ → Option (Option (List ℕ))) → FolderFault → Type 0
+IsUnloaded lacked most stands fault = (names : ℕ → Option (List ℕ)) → AreNames stands names → IsFaultTo lacked most names fault
+
 -- The text spells this board, and these are the levels up to the board's.
 pub record IsAsked (stands : ℕ → Option (Option (List ℕ))) (text : List ℕ) (images : List Image) (board : List ℕ) : Type 0 where
   pub levels : AreLevelsTo (min (sum board) HIGHEST_LEVEL) stands images
   pub whole : IsBoard board
   pub spelled : text ≡ text_of board
+
+-- the text is no board, or the levels up to its board's are refused
+abbrev pub IsUnasked : Type 0 → (ℕ → Option (Option (List ℕ))) → List ℕ → NoAnswer → Type 0
+IsUnasked lacked stands text (Board fault) = IsFaulty text fault
+IsUnasked lacked stands text (Folder fault) = (board : List ℕ) × (text ≡ text_of board) × IsUnloaded lacked (min (sum board) HIGHEST_LEVEL) stands fault
+IsUnasked lacked stands text fault = ⊥
 
 -- the fault inside it, and the number of a move among several; or its number, its name and its field
 abbrev pub no_answer_text : NoAnswer → List ℕ

@@ -1,11 +1,11 @@
 //! What the commands have in common that ask the levels in a folder about one board: the board, the
 //! levels, and why a command gives no answer.
 
-ghost use Rattle.std.specs.Prelude.{◌≡◌, ◌≤◌, ◌↔◌, Err, IfOk, length};
+ghost use Rattle.std.specs.Prelude.{◌≡◌, ◌≤◌, ◌↔◌, Err, IfErr, IfOk, length};
 ghost use Rattle.awari_board.specs.BoardFault.{IsFaulty};
 ghost use Rattle.awari_board.specs.declared.text.BoardFault.{BoardFault};
-ghost use Rattle.awari_folder.specs.Contents.{Same};
-ghost use Rattle.awari_answers.specs.Asked.{IsAsked};
+ghost use Rattle.awari_folder.specs.Contents.{Lacks, Same};
+ghost use Rattle.awari_answers.specs.Asked.{IsAsked, IsUnasked};
 ghost use Rattle.awari_answers.specs.Refusals.{folder_name_of};
 ghost use Rattle.awari_answers.specs.declared.asked.NoAnswer.TheVariants as no_answer;
 
@@ -205,6 +205,7 @@ pub fn ask_folder<T: Threads + Sync, F: Folder>(
     text: &[u8],
 ) -> Result<Asked, NoAnswer>
     ensures asked { IfOk result (λ found. IsAsked (F.state folder.old).stands text.now found.shelf found.board) }
+    ensures fault { IfErr result (IsUnasked (Lacks (F.state folder.old).refusals (F.state folder.new).refusals) (F.state folder.old).stands text.now) }
     ensures same { Same (F.state folder.old).stands (F.state folder.new).stands }
     ensures board { (fault : BoardFault) → (result ≡ Err (no_answer.Board fault)) ↔ IsFaulty text.now fault }
 {

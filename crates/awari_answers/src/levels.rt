@@ -1,8 +1,8 @@
 //! The levels in a folder, as far as a command needs them.
 
-ghost use Rattle.std.specs.Prelude.{IfOk, min};
-ghost use Rattle.awari_answers.specs.Asked.{AreLevelsTo};
-ghost use Rattle.awari_folder.specs.Contents.{Same};
+ghost use Rattle.std.specs.Prelude.{IfErr, IfOk, min};
+ghost use Rattle.awari_answers.specs.Asked.{AreLevelsTo, IsUnloaded};
+ghost use Rattle.awari_folder.specs.Contents.{Lacks, Same};
 ghost use Rattle.awari_table.specs.declared.TheConstants.{HIGHEST_LEVEL};
 
 use awari_folder::{Folder, FolderFault, Together, load};
@@ -19,6 +19,7 @@ pub fn load_levels<T: Threads + Sync, F: Folder>(
     most: u8,
 ) -> Result<Shelf, FolderFault>
     ensures levels { IfOk result (AreLevelsTo (min most HIGHEST_LEVEL) (F.state folder.old).stands) }
+    ensures fault { IfErr result (IsUnloaded (Lacks (F.state folder.old).refusals (F.state folder.new).refusals) (min most HIGHEST_LEVEL) (F.state folder.old).stands) }
     ensures same { Same (F.state folder.old).stands (F.state folder.new).stands }
 {
     let most = most.min(HIGHEST_LEVEL);

@@ -1,9 +1,9 @@
 //! The levels in a folder, up to one that has to be there.
 
-ghost use Rattle.std.specs.Prelude.{◌≡◌, ◌<◌, ◌≤◌, ◌+◌, ℕ, List, Option, IfErr, IfOk, min};
-ghost use Rattle.awari_folder.specs.Contents.{AreNames, Same};
-ghost use Rattle.awari_places.specs.Opening.{AreFramed};
-ghost use Rattle.awari_facts.specs.Loads.{HasLevel, IsNoFolder, IsNoLevel};
+ghost use Rattle.std.specs.Prelude.{◌<◌, ◌≤◌, ◌+◌, IfErr, IfOk, min};
+ghost use Rattle.awari_folder.specs.Contents.{Lacks, Same};
+ghost use Rattle.awari_answers.specs.Asked.{IsUnloaded};
+ghost use Rattle.awari_facts.specs.Loads.{AreOpenedTo, CountsLoaded, CountsOpened, HasLevel, IsNoFolder, IsNoLevel, IsUnopened};
 ghost use Rattle.awari_table.specs.declared.TheConstants.{HIGHEST_LEVEL};
 
 use awari_answers::{NoAnswer, load_levels};
@@ -22,7 +22,7 @@ pub fn load_to<T: Threads + Sync, F: Folder>(
     level: u8,
 ) -> Result<Shelf, NoAnswer>
     ensures levels { IfOk result (HasLevel level (F.state folder.old).stands) }
-    ensures fault { IfErr result (IsNoLevel level) }
+    ensures fault { IfErr result (IsNoLevel (IsUnloaded (Lacks (F.state folder.old).refusals (F.state folder.new).refusals) (min level HIGHEST_LEVEL) (F.state folder.old).stands) (CountsLoaded level (F.state folder.old).stands) level) }
     ensures same { Same (F.state folder.old).stands (F.state folder.new).stands }
 {
     let shelf = load_levels(rt, alloc, folder, level)?;
@@ -37,9 +37,9 @@ pub fn load_to<T: Threads + Sync, F: Folder>(
 /// The levels in a folder up to this one, by the headers of their files. It is refused as
 /// [`open_levels`] is, or as 59 if the level is not there.
 pub fn open_to<F: Folder>(folder: &mut F, level: u8) -> Result<Opened, NoAnswer>
-    ensures framed { IfOk result (λ opened. (names : ℕ → Option (List ℕ)) → AreNames (F.state folder.old).stands names → AreFramed (min level HIGHEST_LEVEL) names opened) }
+    ensures framed { IfOk result (AreOpenedTo (min level HIGHEST_LEVEL) (F.state folder.old).stands) }
     ensures known { IfOk result (λ opened. level < opened.levels) }
-    ensures fault { IfErr result (IsNoLevel level) }
+    ensures fault { IfErr result (IsNoLevel (IsUnopened (min level HIGHEST_LEVEL) (F.state folder.old).stands) (CountsOpened level (F.state folder.old).stands) level) }
     ensures few { IfOk result (λ opened. opened.levels ≤ HIGHEST_LEVEL + 1) }
     ensures same { Same (F.state folder.old).stands (F.state folder.new).stands }
 {
@@ -54,8 +54,8 @@ pub fn open_to<F: Folder>(folder: &mut F, level: u8) -> Result<Opened, NoAnswer>
 
 /// All levels in a folder, by the headers of their files. It is refused as [`open_levels`] is.
 pub fn open_all<F: Folder>(folder: &mut F) -> Result<Opened, NoAnswer>
-    ensures framed { IfOk result (λ opened. (names : ℕ → Option (List ℕ)) → AreNames (F.state folder.old).stands names → AreFramed HIGHEST_LEVEL names opened) }
-    ensures fault { IfErr result IsNoFolder }
+    ensures framed { IfOk result (AreOpenedTo HIGHEST_LEVEL (F.state folder.old).stands) }
+    ensures fault { IfErr result (IsNoFolder (IsUnopened HIGHEST_LEVEL (F.state folder.old).stands)) }
     ensures few { IfOk result (λ opened. opened.levels ≤ HIGHEST_LEVEL + 1) }
     ensures same { Same (F.state folder.old).stands (F.state folder.new).stands }
 {
