@@ -1,14 +1,18 @@
 -- What lies behind a handle, and what comes of building the next level.
-use Rattle.std.specs.Prelude.{◌≡◌, ◌≢◌, ◌⊎◌, ◌↔◌, ◌<◌, ◌≤◌, ℕ, true, All, IsSomeAnd, Option, Some, None, List, length}
+use Rattle.std.specs.Prelude.{◌≡◌, ◌≢◌, ◌⊎◌, ◌↔◌, ◌<◌, ◌≤◌, ℕ, true, All, IsSomeAnd, Option, Some, None, List, ◌++◌, ◌∷◌, [], length}
 use Rattle.awari_block.specs.Counts.{spread_in}
 use Rattle.awari_block.specs.Part.{Part, IsClosed}
 use Rattle.awari_file.specs.FileText.{file_len}
+use Rattle.awari_folder.specs.NextFile.{IsNextFile}
 use Rattle.awari_folder.specs.declared.loading.Stored.{Stored}
 use Rattle.awari_heard.specs.Kept.{IsKept}
 use Rattle.awari_heard.specs.Level.{AreHeard, AreWhole}
+use Rattle.awari_play.specs.Least.{HasLowestPlans, IsPlannedLowest}
 use Rattle.awari_slices.specs.Drafts.{IsSlice}
 use Rattle.awari_table.specs.Images.{table_of}
+use Rattle.awari_table.specs.Shelves.{Consistent}
 use Rattle.awari_table.specs.declared.images.Image.{Image}
+use Rattle.awari_theory.specs.Truth.{TellsTruth}
 use Rattle.awari_waves.specs.Analyses.{AnalysisView}
 use Rattle.awari_waves.specs.Each.{NoneAreFresh}
 use Rattle.awari_page.specs.declared.held.Held.TheInside.{Inside}
@@ -43,6 +47,21 @@ pub record IsMade (levels : List Image) (image : Image) : Type 0 where
   pub closed : All IsClosed parts
   pub heard : AreHeard (table_of levels).value parts
   pub kept : IsKept levels parts image
+
+-- The level is the next one of these, with the lowest plans, and tells the truth on them.
+pub record IsRightNext (levels : List Image) (level : Image) : Type 0 where
+  pub consistent : Consistent levels level
+  pub planned : IsPlannedLowest levels level
+  pub meaning : TellsTruth (levels ++ level ∷ [])
+
+-- What comes of putting it on top and writing its file to a room: after 0 the bytes are its file, the levels tell the truth, and have
+-- the lowest plans if those below have; after any other answer levels and room are as they were.
+pub record PutsOn (old new : Stored) (answer : ℕ) (room file : List ℕ) : Type 0 where
+  pub ok : answer ≡ 0 → IsNextFile old.shelf old.digest file new.shelf new.digest
+  pub meaning : answer ≡ 0 → TellsTruth new.shelf
+  pub planned : answer ≡ 0 → HasLowestPlans old.shelf → HasLowestPlans new.shelf
+  pub kept : answer ≢ 0 → new ≡ old
+  pub untouched : answer ≢ 0 → file ≡ room
 
 -- It says how far a level is.
 pub record TellsDraft (draft : AnalysisView) (told : PlainDraft) : Type 0 where

@@ -7,7 +7,7 @@ ghost use Rattle.awari_theory.specs.Truth.{TellsTruth};
 ghost use Rattle.awari_play.specs.Least.{HasLowestPlans, IsPlannedLowest};
 ghost use Rattle.awari_file.specs.FileText.{HasFile, body_text, file_len, file_text};
 ghost use Rattle.awari_folder.specs.NextFile.{IsNextFile};
-ghost use Rattle.awari_page.specs.Held.{Begins, Finishes, IsSettled, Spreads};
+ghost use Rattle.awari_page.specs.Held.{Begins, Finishes, IsRightNext, IsSettled, PutsOn, Spreads};
 ghost use Rattle.awari_page.specs.Owned.{digest_in, draft_in, levels_in};
 
 use crate::handles::{Handle, put, take};
@@ -90,11 +90,7 @@ pub extern "C" fn awari_finish(handle: &mut Handle, alloc: Global, file: &mut [u
 /// Puts the level that was begun on top, and writes its file, as `awari_finish` does.
 fn finish_in(held: &mut Held, alloc: Global, file: &mut [u8]) -> u8
     ensures finishes { Finishes held.old.stored.shelf held.old.draft held.new.draft (length file.old) result }
-    ensures ok { result ≡ 0 → IsNextFile held.old.stored.shelf held.old.stored.digest file.new held.new.stored.shelf held.new.stored.digest }
-    ensures meaning { result ≡ 0 → TellsTruth held.new.stored.shelf }
-    ensures planned { result ≡ 0 → HasLowestPlans held.old.stored.shelf → HasLowestPlans held.new.stored.shelf }
-    ensures kept { result ≢ 0 → held.new.stored ≡ held.old.stored }
-    ensures untouched { result ≢ 0 → file.new ≡ file.old }
+    ensures puts_on { PutsOn held.old.stored held.new.stored result file.old file.new }
 {
     if !held.is_settled() {
         return NOT_YET;
@@ -110,16 +106,11 @@ fn finish_in(held: &mut Held, alloc: Global, file: &mut [u8]) -> u8
 
 /// Puts the next level on top and writes its file, and answers 0; or 53 if memory runs out.
 fn keep(held: &mut Held, alloc: Global, level: Level, file: &mut [u8]) -> u8
-    requires consistent { Consistent held.old.stored.shelf level }
-    requires meaning { TellsTruth (held.old.stored.shelf ++ level ∷ []) }
-    requires planned { IsPlannedLowest held.old.stored.shelf level }
+    requires next { IsRightNext held.old.stored.shelf level }
     requires none { held.old.draft ≡ None }
     requires room { length file.old ≡ file_len (length held.old.stored.shelf) }
-    ensures ok { result ≡ 0 → IsNextFile held.old.stored.shelf held.old.stored.digest file.new held.new.stored.shelf held.new.stored.digest }
-    ensures meaning { result ≡ 0 → TellsTruth held.new.stored.shelf }
-    ensures planned { result ≡ 0 → HasLowestPlans held.old.stored.shelf → HasLowestPlans held.new.stored.shelf }
-    ensures kept { result ≢ 0 → (held.new.stored ≡ held.old.stored) × (result ≡ 53) }
-    ensures untouched { result ≢ 0 → file.new ≡ file.old }
+    ensures puts_on { PutsOn held.old.stored held.new.stored result file.old file.new }
+    ensures refused { result ≢ 0 → result ≡ 53 }
     ensures none { held.new.draft ≡ None }
 {
     // Ghost: the plans stay the lowest.

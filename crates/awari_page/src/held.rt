@@ -8,7 +8,7 @@ ghost use Rattle.awari_theory.specs.Truth.{TellsTruth};
 ghost use Rattle.awari_play.specs.Least.{IsPlannedLowest};
 ghost use Rattle.awari_file.specs.FileText.{file_len};
 ghost use Rattle.awari_folder.specs.NextFile.{IsNextFile, IsFileFault};
-ghost use Rattle.awari_page.specs.Held.{Begins, IsMade, IsSettled, Spreads};
+ghost use Rattle.awari_page.specs.Held.{Begins, IsMade, IsRightNext, IsSettled, Spreads};
 
 use crate::telling::{PlainDraft, told_draft};
 use awari_file::file_len;
@@ -143,9 +143,7 @@ impl Held {
     /// are closed.
     pub(crate) fn finish(&mut self, alloc: Global) -> Option<Level>
         requires settled { IsSomeAnd self.old.draft IsSettled }
-        ensures consistent { IfSome result (Consistent self.old.stored.shelf) }
-        ensures meaning { IfSome result (λ level. TellsTruth (self.old.stored.shelf ++ level ∷ [])) }
-        ensures planned { IfSome result (IsPlannedLowest self.old.stored.shelf) }
+        ensures next { IfSome result (IsRightNext self.old.stored.shelf) }
         ensures stored { self.new.stored ≡ self.old.stored }
         ensures none { self.new.draft ≡ None }
     {
