@@ -1,13 +1,12 @@
 //! What builds the next level, a slice at a time.
 
-ghost use Rattle.std.specs.Prelude.{◌≡◌, ◌≢◌, ◌⊎◌, ◌++◌, ◌∷◌, [], ℕ, None, IfSome, IsSomeAnd, length};
+ghost use Rattle.std.specs.Prelude.{◌≡◌, ◌≢◌, None, IfSome, length};
 ghost use Rattle.sha2.specs.Sha256.{sha256};
-ghost use Rattle.awari_table.specs.Shelves.{Consistent};
 ghost use Rattle.awari_theory.specs.Truth.{TellsTruth};
-ghost use Rattle.awari_play.specs.Least.{HasLowestPlans, IsPlannedLowest};
+ghost use Rattle.awari_play.specs.Least.{HasLowestPlans};
 ghost use Rattle.awari_file.specs.FileText.{HasFile, body_text, file_len, file_text};
 ghost use Rattle.awari_folder.specs.NextFile.{IsNextFile};
-ghost use Rattle.awari_page.specs.Held.{Begins, Finishes, IsRightNext, IsSettled, PutsOn, Spreads};
+ghost use Rattle.awari_page.specs.Held.{Begins, Finishes, IsRightNext, PutsOn, Spreads};
 ghost use Rattle.awari_page.specs.Owned.{digest_in, draft_in, levels_in};
 
 use crate::handles::{Handle, put, take};

@@ -2,8 +2,8 @@
 use Rattle.std.proofs.Common.{◌≡◌, ℕ, List, [], ◌∷◌, ◌++◌, Option, map, sym, ap, ◌∙◌, append-nil, append_assoc}
 use Rattle.std.specs.Prelude.{codes}
 use Rattle.awari_members.proofs.MemberLaws.{json-closed, marked-append}
-use Rattle.awari_members.specs.Json.{array, commas, json_string, member}
-use Rattle.awari_members.specs.Members.{Named, board, line_text, mark_of, marked, number, pit, signed, text, truth}
+use Rattle.awari_members.specs.Json.{commas, json_string}
+use Rattle.awari_members.specs.Members.{Named, board, line_text, marked, number, pit, signed, text, truth}
 use Rattle.awari_play.specs.Json.{entry_json, entry_members, move_json, moves_member, refusal_json, request_member, weighed_json}
 use Rattle.awari_play.specs.Worths.{is_planned, replies_members, worth_members}
 use Rattle.awari_play.specs.declared.weighing.Weighed.{Weighed}

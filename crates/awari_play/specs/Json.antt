@@ -1,6 +1,6 @@
 -- Answers as JSON, each an object of members on a line.
 use Rattle.std.specs.Prelude.{ℕ, List, [], ◌∷◌, ◌++◌, map, codes, Option}
-use Rattle.awari_members.specs.Json.{array, commas, json_string}
+use Rattle.awari_members.specs.Json.{array, json_string}
 use Rattle.awari_members.specs.Members.{Named, board, line_text, number, pit, signed, text, truth}
 use Rattle.awari_play.specs.Worths.{is_planned, worth_members}
 use Rattle.awari_play.specs.declared.weighing.Weighed.{Weighed}

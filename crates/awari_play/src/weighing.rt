@@ -1,11 +1,10 @@
 //! What the legal moves of a board are worth, and the lines that tell it.
 
-ghost use Rattle.std.specs.Prelude.{◌≡◌, ◌≤◌, ◌<◌, ◌+◌, ◌++◌, ◌↔◌, IsOk, IfOk, IfErr, length, sum, All, map, Bool, true};
+ghost use Rattle.std.specs.Prelude.{◌≡◌, ◌≤◌, ◌<◌, ◌+◌, ◌++◌, ◌↔◌, IsOk, IfOk, IfErr, length, sum, All, map};
 ghost use Rattle.arrayvec.specs.ArrayVec.{array_vec_len};
 ghost use Rattle.awari_board.specs.Rules.{IsLegal};
 ghost use Rattle.awari_members.specs.Members.{marked};
 ghost use Rattle.awari_play.specs.Worths.{
-  AreWorths,
   IsReplied,
   IsWeighed,
   end_line,

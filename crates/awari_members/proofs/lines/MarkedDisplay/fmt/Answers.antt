@@ -1,4 +1,4 @@
-use Rattle.std.proofs.Common.{◌++◌, map, refl, rules}
+use Rattle.std.proofs.Common.{◌++◌, refl, rules}
 use Rattle.std.proofs.lemmas.Grind.{put_two}
 use Rattle.std.proofs.lemmas.List.{get_or_default}
 use Rattle.awari_members.specs.Members.{marked, member_text, said}
