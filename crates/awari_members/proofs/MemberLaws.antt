@@ -4,10 +4,10 @@ use Rattle.std.proofs.Math.Seq.{drop-cons}
 use Rattle.std.specs.Fmt.{decimal}
 use Rattle.awari_members.specs.declared.lines.Member.{Member}
 use Rattle.std.specs.List.{flat_map}
-use Rattle.awari_members.specs.Json.{array, commas, quoted}
+use Rattle.awari_members.specs.Json.{array, commas}
 use Rattle.awari_queries.specs.declared.boards.Form.{Form}
 use Rattle.awari_queries.specs.declared.boards.Form.TheVariants.{Text, Csv, Json}
-use Rattle.awari_members.specs.Members.{Named, later_pits, line_text, mark_of, marked, member_text, name_in, pits_text, said, spaced}
+use Rattle.awari_members.specs.Members.{Named, later_pits, line_text, mark_of, marked, member_text, pits_text, said, spaced}
 
 later_pits-are : (pits : List ℕ) → later_pits pits ≡ flat_map (λ t. 44 ∷ t) (map decimal pits)
 later_pits-are [] = refl
@@ -45,10 +45,6 @@ pub json-line : (members : List Named) → codes "{" ++ (marked Json [] members 
 unfolding line_text
 json-line members = ap (λ (t : List ℕ). 123 ∷ (t ++ 125 ∷ [])) (commas-are Json members refl)
 
--- an object behind its brace
-pub json-closed : (m : Named) (members : List Named) → marked Json (codes "{") (m ∷ members) ++ codes "}" ≡ line_text Json (m ∷ members)
-json-closed m members = json-line (m ∷ members)
-
 -- members behind members
 pub marked-append : (form : Form) (mark : List ℕ) (m : Named) (members others : List Named) → marked form mark (m ∷ members ++ others) ≡ marked form mark (m ∷ members) ++ marked form (mark_of form) others
 marked-append form mark m [] others =
@@ -57,12 +53,6 @@ marked-append form mark m (n ∷ members) others =
     ap (λ (t : List ℕ). mark ++ (member_text form m ++ t)) (marked-append form (mark_of form) n members others)
     ∙ ap (λ (t : List ℕ). mark ++ t) (sym (append_assoc (member_text form m) (marked form (mark_of form) (n ∷ members)) (marked form (mark_of form) others)))
     ∙ sym (append_assoc mark (member_text form m ++ marked form (mark_of form) (n ∷ members)) (marked form (mark_of form) others))
-
--- a name and a value
-pub member-parts : (form : Form) (m : Named) → name_in form m.name ++ m.value form ≡ member_text form m
-member-parts Text m = append_assoc m.name (32 ∷ []) (m.value Text)
-member-parts Csv m = refl
-member-parts Json m = append_assoc (quoted m.name) (58 ∷ []) (m.value Json)
 
 -- one member more behind a text
 pub marked-on : (form : Form) (mark next : List ℕ) (members : List Member) (i : ℕ) (m : Member) (done all : List ℕ) → i < length members → get_or members i m ≡ m → next ≡ mark_of form

@@ -1,7 +1,7 @@
 -- Objects, put together from their parts.
 use Rattle.std.proofs.Common.{◌≡◌, ℕ, List, [], ◌∷◌, ◌++◌, Option, map, sym, ap, ◌∙◌, append-nil, append_assoc}
 use Rattle.std.specs.Prelude.{codes}
-use Rattle.awari_members.proofs.MemberLaws.{json-closed, marked-append}
+use Rattle.awari_members.proofs.MemberLaws.{json-line, marked-append}
 use Rattle.awari_members.specs.Json.{commas, json_string}
 use Rattle.awari_members.specs.Members.{Named, board, line_text, marked, number, pit, signed, text, truth}
 use Rattle.awari_play.specs.Json.{entry_json, entry_members, move_json, moves_member, refusal_json, request_member, weighed_json}
@@ -13,7 +13,7 @@ use Rattle.awari_table.specs.declared.images.Entry.{Entry}
 
 -- an object with its line feed
 closed-line : (m : Named) (members : List Named) → marked Json (codes "{") (m ∷ members) ++ codes "}\n" ≡ line_text Json (m ∷ members) ++ 10 ∷ []
-closed-line m members = sym (append_assoc (marked Json (codes "{") (m ∷ members)) (125 ∷ []) (10 ∷ [])) ∙ ap (λ t. t ++ 10 ∷ []) (json-closed m members)
+closed-line m members = sym (append_assoc (marked Json (codes "{") (m ∷ members)) (125 ∷ []) (10 ∷ [])) ∙ ap (λ t. t ++ 10 ∷ []) (json-line (m ∷ members))
 
 -- the members of an entry behind the board
 abbrev later_entry : Entry → List Named
@@ -48,7 +48,7 @@ unfolding move_json
 move_json-parts plan m =
     sym (append_assoc (marked Json (codes "{") (worth_members m)) (marked Json (codes ",") is_plan) (125 ∷ []))
     ∙ ap (λ t. t ++ 125 ∷ []) (sym (marked-append Json (codes "{") pit_member later is_plan))
-    ∙ json-closed pit_member (later ++ is_plan)
+    ∙ json-line (pit_member ∷ later ++ is_plan)
   where
     pit_member : Named
     pit_member = number (codes "pit") m.worth.pit
