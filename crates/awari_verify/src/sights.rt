@@ -18,6 +18,7 @@ use awari_table::{Image, Reached, Shelf};
 /// of the boards that its moves lead to. Each is looked up once.
 ///
 /// It is filled in place, since handing it on would copy six moves for each board.
+#[inline(always)]
 pub fn see(shelf: &Shelf, image: &Image, board: &PackedBoard, rank: u32, seen: &mut Seen)
     requires shaped { IsShaped shelf.now image.now }
     requires stones { sum board.now ≡ image.now.level }
@@ -34,6 +35,7 @@ pub fn see(shelf: &Shelf, image: &Image, board: &PackedBoard, rank: u32, seen: &
 }
 
 /// The move of this pit, if it is legal.
+#[inline(always)]
 fn reached(shelf: &Shelf, image: &Image, board: &PackedBoard, pit: u8) -> Option<Reached>
     requires shaped { IsShaped shelf.now image.now }
     requires stones { sum board.now ≡ image.now.level }
@@ -47,6 +49,7 @@ fn reached(shelf: &Shelf, image: &Image, board: &PackedBoard, pit: u8) -> Option
 
 /// The move as it was played. What a quiet move leads to, the image says. Behind a capture the shelf
 /// says it, and only the value is read there.
+#[inline(always)]
 fn reached_by(shelf: &Shelf, image: &Image, moved: &PackedMove) -> Reached
     requires shaped { IsShaped shelf.now image.now }
     requires stones { sum moved.now.board + moved.now.captured ≡ image.now.level }
