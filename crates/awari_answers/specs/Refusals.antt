@@ -2,22 +2,11 @@
 use Rattle.std.specs.Prelude.{ℕ, List, [], ◌∷◌, ◌++◌, codes}
 use Rattle.awari_board.specs.BoardFault.{name_of as board_name_of, number_of as board_number_of}
 use Rattle.awari_board.specs.MoveFault.{name_of as move_name_of, number_of as move_number_of}
-use Rattle.awari_folder.specs.FolderFault.{number_of as folder_number_of}
-use Rattle.awari_folder.specs.declared.faults.FolderFault.{FolderFault}
-use Rattle.awari_folder.specs.declared.faults.FolderFault.TheVariants as folder
+use Rattle.awari_folder.specs.FolderFault.{name_of as folder_name_of, number_of as folder_number_of}
 use Rattle.awari_play.specs.LineFault.{number_of as line_number_of}
 use Rattle.awari_play.specs.declared.lines.LineFault.TheVariants as line
 use Rattle.awari_answers.specs.declared.asked.NoAnswer.{NoAnswer}
 use Rattle.awari_answers.specs.declared.asked.NoAnswer.TheVariants.{Board, Move, MoveAt, Folder, NotYet, Line, Memory, NoRank, Overflow, Span, Column}
-
-abbrev pub folder_name_of : FolderFault → List ℕ
-folder_name_of (folder.Below level) = codes "Below"
-folder_name_of (folder.File level fault) = codes "File"
-folder_name_of (folder.Open level) = codes "Open"
-folder_name_of (folder.Verify level fault) = codes "Verify"
-folder_name_of folder.Memory = codes "Memory"
-folder_name_of (folder.Occupied level) = codes "Occupied"
-folder_name_of (folder.Old level) = codes "Old"
 
 -- its number, or that of the fault inside it; and its name
 abbrev pub number_of : NoAnswer → ℕ

@@ -6,7 +6,6 @@ ghost use Rattle.awari_board.specs.BoardFault.{IsFaulty};
 ghost use Rattle.awari_board.specs.declared.text.BoardFault.{BoardFault};
 ghost use Rattle.awari_folder.specs.Contents.{Lacks, Same};
 ghost use Rattle.awari_answers.specs.Asked.{IsAsked, IsUnasked};
-ghost use Rattle.awari_answers.specs.Refusals.{folder_name_of};
 ghost use Rattle.awari_answers.specs.declared.asked.NoAnswer.TheVariants as no_answer;
 
 use crate::levels::load_levels;
@@ -82,18 +81,9 @@ impl NoAnswer {
         ensures short { length result.now ≤ 20 }
     {
         match self {
-            NoAnswer::Board { fault } => match fault {
-                BoardFault::Shape => "Shape",
-                BoardFault::Number => "Number",
-                BoardFault::TooMany => "TooMany",
-            },
-            NoAnswer::Move { fault } | NoAnswer::MoveAt { fault, .. } => match fault {
-                MoveFault::NoPit => "NoPit",
-                MoveFault::Ended => "Ended",
-                MoveFault::EmptyPit => "EmptyPit",
-                MoveFault::MustFeed => "MustFeed",
-            },
-            NoAnswer::Folder { fault } => folder_name_of(fault),
+            NoAnswer::Board { fault } => fault.name(),
+            NoAnswer::Move { fault } | NoAnswer::MoveAt { fault, .. } => fault.name(),
+            NoAnswer::Folder { fault } => fault.name(),
             NoAnswer::NotYet { .. } => "NotYet",
             NoAnswer::Line { fault } => match fault {
                 LineFault::NotYet { .. } => "NotYet",
@@ -105,22 +95,6 @@ impl NoAnswer {
             NoAnswer::Span => "Span",
             NoAnswer::Column => "Column",
         }
-    }
-}
-
-/// The name of a folder's fault. It takes no memory.
-pub fn folder_name_of(fault: FolderFault) -> &'static str
-    ensures name { result.now ≡ folder_name_of fault }
-    ensures short { length result.now ≤ 20 }
-{
-    match fault {
-        FolderFault::Below { .. } => "Below",
-        FolderFault::File { .. } => "File",
-        FolderFault::Open { .. } => "Open",
-        FolderFault::Verify { .. } => "Verify",
-        FolderFault::Memory => "Memory",
-        FolderFault::Occupied { .. } => "Occupied",
-        FolderFault::Old { .. } => "Old",
     }
 }
 

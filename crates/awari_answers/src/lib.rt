@@ -26,7 +26,7 @@ mod streams;
 mod telling;
 mod watching;
 
-pub use asked::{Asked, NoAnswer, ask_folder, folder_name_of};
+pub use asked::{Asked, NoAnswer, ask_folder};
 pub use hints::{refuse_folder, tell_answer};
 pub use json::refuse_as;
 pub use levels::load_levels;

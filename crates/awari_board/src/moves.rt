@@ -1,7 +1,7 @@
 //! What playing a pit answers.
 
-ghost use Rattle.std.specs.Prelude.{◌≡◌};
-ghost use Rattle.awari_board.specs.MoveFault.{number_of};
+ghost use Rattle.std.specs.Prelude.{◌≡◌, ◌≤◌, length};
+ghost use Rattle.awari_board.specs.MoveFault.{name_of, number_of};
 
 use crate::boards::Board;
 use std::fmt;
@@ -42,6 +42,19 @@ impl MoveFault {
             MoveFault::MustFeed => 6,
         }
     }
+
+    /// The name of this refusal.
+    pub fn name(self) -> &'static str
+        ensures name { result.now ≡ name_of self }
+        ensures short { length result.now ≤ 20 }
+    {
+        match self {
+            MoveFault::NoPit => "NoPit",
+            MoveFault::Ended => "Ended",
+            MoveFault::EmptyPit => "EmptyPit",
+            MoveFault::MustFeed => "MustFeed",
+        }
+    }
 }
 
 impl fmt::Display for MoveFault {
@@ -51,12 +64,6 @@ impl fmt::Display for MoveFault {
     ghost output = { λ fault. Some (fault_text fault) };
 
     fn fmt<W: fmt::Write>(&self, f: &mut fmt::Formatter<W>) -> fmt::Result {
-        let number = self.number();
-        match *self {
-            MoveFault::NoPit => write!(f, "{number} NoPit"),
-            MoveFault::Ended => write!(f, "{number} Ended"),
-            MoveFault::EmptyPit => write!(f, "{number} EmptyPit"),
-            MoveFault::MustFeed => write!(f, "{number} MustFeed"),
-        }
+        write!(f, "{} {}", self.number(), self.name())
     }
 }

@@ -2,7 +2,7 @@
 
 ghost use Rattle.std.specs.Prelude.{◌≡◌, ◌≢◌, All, false, true, ℕ, ◌+◌, ◌*◌, ◌++◌, ◌<◌, ◌≤◌, ◌↔◌, IsTrue, IsNone, IfNone, IfSome, drop, length, slice_index, sum};
 ghost use Rattle.arrayvec.specs.ArrayVec.{array_vec_len};
-ghost use Rattle.awari_board.specs.BoardFault.{IsFaulty, number_of};
+ghost use Rattle.awari_board.specs.BoardFault.{IsFaulty, name_of, number_of};
 ghost use Rattle.awari_board.specs.Text.{IsReadAs, IsShaped, digits, is_separator, mark_after, marks};
 
 use crate::sides::SIDE;
@@ -36,6 +36,18 @@ impl BoardFault {
             BoardFault::TooMany => 3,
         }
     }
+
+    /// The name of this refusal.
+    pub fn name(self) -> &'static str
+        ensures name { result.now ≡ name_of self }
+        ensures short { length result.now ≤ 20 }
+    {
+        match self {
+            BoardFault::Shape => "Shape",
+            BoardFault::Number => "Number",
+            BoardFault::TooMany => "TooMany",
+        }
+    }
 }
 
 impl fmt::Display for BoardFault {
@@ -45,12 +57,7 @@ impl fmt::Display for BoardFault {
     ghost output = { λ fault. Some (fault_text fault) };
 
     fn fmt<W: fmt::Write>(&self, f: &mut fmt::Formatter<W>) -> fmt::Result {
-        let number = self.number();
-        match *self {
-            BoardFault::Shape => write!(f, "{number} Shape"),
-            BoardFault::Number => write!(f, "{number} Number"),
-            BoardFault::TooMany => write!(f, "{number} TooMany"),
-        }
+        write!(f, "{} {}", self.number(), self.name())
     }
 }
 

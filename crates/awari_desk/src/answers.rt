@@ -1,7 +1,7 @@
 //! What a request of the service is answered by.
 
 ghost use Rattle.std.specs.Prelude.{◌≡◌, ◌≤◌, ◌++◌, ◌∷◌, [], codes, length};
-ghost use Rattle.awari_board.specs.BoardFault.{fault_text, name_of as board_name_of};
+ghost use Rattle.awari_board.specs.BoardFault.{fault_text};
 ghost use Rattle.awari_desk.specs.ProbeFault.{name_of as probe_name_of, number_of as probe_number_of};
 ghost use Rattle.awari_desk.specs.Service.{answer_text};
 ghost use Rattle.awari_play.specs.Worths.{weighed_text};
@@ -111,19 +111,8 @@ fn probe_name<O: Oracle>(fault: &ProbeFault<O::Fault>) -> &'static str
     ensures short { length result.now ≤ 20 }
 {
     match fault {
-        ProbeFault::Board { fault } => board_name(*fault),
+        ProbeFault::Board { fault } => fault.name(),
         ProbeFault::Ask { fault } => O::name_of(fault),
-    }
-}
-
-fn board_name(fault: BoardFault) -> &'static str
-    ensures name { result.now ≡ board_name_of fault }
-    ensures short { length result.now ≤ 20 }
-{
-    match fault {
-        BoardFault::Shape => "Shape",
-        BoardFault::Number => "Number",
-        BoardFault::TooMany => "TooMany",
     }
 }
 

@@ -1,6 +1,6 @@
 //! Why the file of a level is not read or written.
 
-ghost use Rattle.std.specs.Prelude.{◌≡◌};
+ghost use Rattle.std.specs.Prelude.{◌≡◌, ◌≤◌, length};
 ghost use Rattle.awari_file.specs.declared.faults.FileFault.TheVariants.{Memory};
 
 use std::alloc::AllocError;
@@ -36,7 +36,7 @@ pub enum FileFault {
 }
 
 impl FileFault {
-    ghost use Rattle.awari_file.specs.FileFault.{number_of};
+    ghost use Rattle.awari_file.specs.FileFault.{name_of, number_of};
 
     /// The number of this refusal, 60 to 70.
     pub fn number(self) -> u8
@@ -56,6 +56,26 @@ impl FileFault {
             FileFault::Write => 70,
         }
     }
+
+    /// The name of this refusal.
+    pub fn name(self) -> &'static str
+        ensures name { result.now ≡ name_of self }
+        ensures short { length result.now ≤ 20 }
+    {
+        match self {
+            FileFault::Truncated => "Truncated",
+            FileFault::Magic => "Magic",
+            FileFault::Version => "Version",
+            FileFault::LevelOutOfRange => "LevelOutOfRange",
+            FileFault::Count => "Count",
+            FileFault::EntryForm => "EntryForm",
+            FileFault::Digest => "Digest",
+            FileFault::Trailing => "Trailing",
+            FileFault::Read => "Read",
+            FileFault::Memory => "Memory",
+            FileFault::Write => "Write",
+        }
+    }
 }
 
 impl fmt::Display for FileFault {
@@ -65,20 +85,7 @@ impl fmt::Display for FileFault {
     ghost output = { λ fault. Some (fault_text fault) };
 
     fn fmt<W: fmt::Write>(&self, f: &mut fmt::Formatter<W>) -> fmt::Result {
-        let number = self.number();
-        match *self {
-            FileFault::Truncated => write!(f, "{number} Truncated"),
-            FileFault::Magic => write!(f, "{number} Magic"),
-            FileFault::Version => write!(f, "{number} Version"),
-            FileFault::LevelOutOfRange => write!(f, "{number} LevelOutOfRange"),
-            FileFault::Count => write!(f, "{number} Count"),
-            FileFault::EntryForm => write!(f, "{number} EntryForm"),
-            FileFault::Digest => write!(f, "{number} Digest"),
-            FileFault::Trailing => write!(f, "{number} Trailing"),
-            FileFault::Read => write!(f, "{number} Read"),
-            FileFault::Memory => write!(f, "{number} Memory"),
-            FileFault::Write => write!(f, "{number} Write"),
-        }
+        write!(f, "{} {}", self.number(), self.name())
     }
 }
 

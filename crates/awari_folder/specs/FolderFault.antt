@@ -17,6 +17,15 @@ number_of Memory = 84
 number_of (Occupied level) = 85
 number_of (Old level) = 86
 
+abbrev pub name_of : FolderFault → List ℕ
+name_of (Below level) = codes "Below"
+name_of (File level fault) = codes "File"
+name_of (Open level) = codes "Open"
+name_of (Verify level fault) = codes "Verify"
+name_of Memory = codes "Memory"
+name_of (Occupied level) = codes "Occupied"
+name_of (Old level) = codes "Old"
+
 -- what is printed of each: its number, its name, its level, and the fault inside it
 abbrev pub fault_text : FolderFault → List ℕ
 fault_text (Below level) = codes "80 Below level " ++ decimal level

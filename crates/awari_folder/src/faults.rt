@@ -1,6 +1,6 @@
 //! Why a folder is not loaded or brought over, or a level not saved.
 
-ghost use Rattle.std.specs.Prelude.{◌≡◌};
+ghost use Rattle.std.specs.Prelude.{◌≡◌, ◌≤◌, length};
 ghost use Rattle.awari_folder.specs.declared.faults.FolderFault.TheVariants.{Memory};
 
 use awari_file::FileFault;
@@ -33,7 +33,7 @@ pub enum FolderFault {
 }
 
 impl FolderFault {
-    ghost use Rattle.awari_folder.specs.FolderFault.{number_of};
+    ghost use Rattle.awari_folder.specs.FolderFault.{name_of, number_of};
 
     /// The number of this refusal, 80 to 86.
     pub fn number(self) -> u8
@@ -47,6 +47,22 @@ impl FolderFault {
             FolderFault::Memory => 84,
             FolderFault::Occupied { .. } => 85,
             FolderFault::Old { .. } => 86,
+        }
+    }
+
+    /// The name of this refusal.
+    pub fn name(self) -> &'static str
+        ensures name { result.now ≡ name_of self }
+        ensures short { length result.now ≤ 20 }
+    {
+        match self {
+            FolderFault::Below { .. } => "Below",
+            FolderFault::File { .. } => "File",
+            FolderFault::Open { .. } => "Open",
+            FolderFault::Verify { .. } => "Verify",
+            FolderFault::Memory => "Memory",
+            FolderFault::Occupied { .. } => "Occupied",
+            FolderFault::Old { .. } => "Old",
         }
     }
 }

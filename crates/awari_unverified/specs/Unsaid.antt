@@ -1,8 +1,7 @@
 -- Why files do not say what is asked of a board, and how that is told.
 use Rattle.std.specs.Prelude.{ℕ, List, [], ◌∷◌, ◌++◌, codes}
 use Rattle.std.specs.Fmt.{decimal}
-use Rattle.awari_answers.specs.Refusals.{folder_name_of}
-use Rattle.awari_folder.specs.FolderFault.{fault_text, number_of as folder_number_of}
+use Rattle.awari_folder.specs.FolderFault.{fault_text, name_of as folder_name_of, number_of as folder_number_of}
 use Rattle.awari_unverified.specs.declared.unsaid.Unsaid.{Unsaid}
 use Rattle.awari_unverified.specs.declared.unsaid.Unsaid.TheVariants.{NotYet, Folder}
 

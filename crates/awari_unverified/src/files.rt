@@ -5,7 +5,6 @@ ghost use Rattle.awari_table.specs.declared.TheConstants.{HIGHEST_LEVEL};
 
 use crate::refusals::line_of_unsaid;
 use crate::unsaid::Unsaid;
-use awari_answers::folder_name_of;
 use awari_board::Board;
 use awari_desk::Oracle;
 use awari_folder::Folder;
@@ -68,7 +67,7 @@ impl<F: Folder> Oracle for Files<'_, F> {
     fn name_of(fault: &Unsaid) -> &'static str {
         match fault {
             Unsaid::NotYet { .. } => "NotYet",
-            Unsaid::Folder { fault } => folder_name_of(*fault),
+            Unsaid::Folder { fault } => fault.name(),
         }
     }
 }

@@ -3,7 +3,7 @@
 ghost use Rattle.std.specs.Prelude.{◌≡◌, ◌≤◌, ◌+◌, ◌++◌, ◌∷◌, [], codes, length};
 ghost use Rattle.std.specs.Fmt.{decimal};
 ghost use Rattle.arrayvec.specs.ArrayVec.{array_vec_len};
-ghost use Rattle.awari_file.specs.FileFault.{fault_text as file_fault_text, name_of as file_name_of};
+ghost use Rattle.awari_file.specs.FileFault.{fault_text as file_fault_text};
 ghost use Rattle.awari_folder.specs.FolderFault.{fault_text as folder_fault_text};
 ghost use Rattle.awari_unverified.specs.Unsaid.{line_of};
 ghost use Rattle.awari_verify.specs.Rule.{rule_name};
@@ -82,29 +82,10 @@ fn push_number_of(line: &mut TextLine, number: u8)
 fn push_file_fault(line: &mut TextLine, fault: FileFault)
     requires { array_vec_len line.old ≤ 40 }
     ensures items { line.new.items ≡ line.old.items ++ file_fault_text fault }
-    ensures len { array_vec_len line.new ≤ array_vec_len line.old + 19 }
+    ensures len { array_vec_len line.new ≤ array_vec_len line.old + 24 }
 {
     push_number_of(line, fault.number());
-    push_text(line, name_of_file_fault(fault));
-}
-
-fn name_of_file_fault(fault: FileFault) -> &'static [u8]
-    ensures name { result.now ≡ file_name_of fault }
-    ensures short { length result.now ≤ 15 }
-{
-    match fault {
-        FileFault::Truncated => b"Truncated",
-        FileFault::Magic => b"Magic",
-        FileFault::Version => b"Version",
-        FileFault::LevelOutOfRange => b"LevelOutOfRange",
-        FileFault::Count => b"Count",
-        FileFault::EntryForm => b"EntryForm",
-        FileFault::Digest => b"Digest",
-        FileFault::Trailing => b"Trailing",
-        FileFault::Read => b"Read",
-        FileFault::Memory => b"Memory",
-        FileFault::Write => b"Write",
-    }
+    push_text(line, fault.name().as_bytes());
 }
 
 fn push_verify_fault(line: &mut TextLine, fault: VerifyFault)
@@ -147,20 +128,5 @@ fn push_rule(line: &mut TextLine, rule: Rule)
     ensures len { array_vec_len line.new ≤ array_vec_len line.old + 8 }
 {
     push_text(line, b" rule ");
-    push_text(line, name_of_rule(rule));
-}
-
-fn name_of_rule(rule: Rule) -> &'static [u8]
-    ensures name { result.now ≡ rule_name rule }
-    ensures short { length result.now ≡ 2 }
-{
-    match rule {
-        Rule::V1 => b"V1",
-        Rule::V2 => b"V2",
-        Rule::V3 => b"V3",
-        Rule::V4 => b"V4",
-        Rule::V5 => b"V5",
-        Rule::V6 => b"V6",
-        Rule::V7 => b"V7",
-    }
+    push_text(line, rule.name().as_bytes());
 }

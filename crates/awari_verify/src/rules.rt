@@ -33,14 +33,16 @@ pub enum Rule {
     V7,
 }
 
-impl fmt::Display for Rule {
-    ghost use Rattle.std.specs.Prelude.{Some};
+impl Rule {
+    ghost use Rattle.std.specs.Prelude.{length};
     ghost use Rattle.awari_verify.specs.Rule.{rule_name};
 
-    ghost output = { λ rule. Some (rule_name rule) };
-
-    fn fmt<W: fmt::Write>(&self, f: &mut fmt::Formatter<W>) -> fmt::Result {
-        f.write_str(match self {
+    /// The name of this rule.
+    pub fn name(self) -> &'static str
+        ensures name { result.now ≡ rule_name self }
+        ensures short { length result.now ≡ 2 }
+    {
+        match self {
             Rule::V1 => "V1",
             Rule::V2 => "V2",
             Rule::V3 => "V3",
@@ -48,7 +50,18 @@ impl fmt::Display for Rule {
             Rule::V5 => "V5",
             Rule::V6 => "V6",
             Rule::V7 => "V7",
-        })
+        }
+    }
+}
+
+impl fmt::Display for Rule {
+    ghost use Rattle.std.specs.Prelude.{Some};
+    ghost use Rattle.awari_verify.specs.Rule.{rule_name};
+
+    ghost output = { λ rule. Some (rule_name rule) };
+
+    fn fmt<W: fmt::Write>(&self, f: &mut fmt::Formatter<W>) -> fmt::Result {
+        f.write_str(self.name())
     }
 }
 
