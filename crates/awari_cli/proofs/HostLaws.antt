@@ -4,7 +4,7 @@ use Rattle.std.specs.Prelude.{bytes_eq}
 use Rattle.std.proofs.lemmas.Slice.Eq.{bytes_eq-Decides}
 use Rattle.awari_cli.specs.Building.{PrintsLevels}
 use Rattle.awari_cli.specs.Done.{LeavesFolders, PrintsBrought, PrintsBuilt}
-use Rattle.awari_cli.specs.Hosts.{AllStay, OthersStay, Stands}
+use Rattle.awari_host.specs.Hosts.{AllStay, OthersStay, Stands}
 use Rattle.awari_cli.specs.Migrating.{PrintsMigrated}
 use Rattle.awari_folder.specs.Contents.{Same}
 use Rattle.awari_folder.specs.Migration.{KeepsFiles}

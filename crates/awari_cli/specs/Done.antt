@@ -6,7 +6,7 @@ use Rattle.awari_check.specs.Answer.{PrintsYes}
 use Rattle.awari_folder.specs.Contents.{Same}
 use Rattle.awari_folder.specs.Migration.{KeepsFiles}
 use Rattle.awari_cli.specs.Building.{PrintsAllLevels, PrintsLevels}
-use Rattle.awari_cli.specs.Hosts.{Stands}
+use Rattle.awari_host.specs.Hosts.{Stands}
 use Rattle.awari_cli.specs.Migrating.{PrintsMigrated}
 use Rattle.awari_cli.specs.Serving.{PrintsService}
 use Rattle.awari_boards.specs.Asks.{PrintsEntry}

@@ -27,13 +27,10 @@
 
 mod beside;
 mod building;
-mod disk;
 mod estimates;
 mod faults;
-mod hosts;
 mod lasting;
 mod laws;
-mod machine;
 mod migrating;
 mod progress;
 mod reading;
@@ -45,13 +42,12 @@ mod writing;
 pub use awari_answers::{Answers, NoAnswer, Replies, Streams};
 pub use awari_boards::{Judgement, Played, judge, play_on, run_ask, run_line, run_moves};
 pub use awari_check::check;
+pub use awari_host::{Disk, Host, Machine, Purpose};
 pub use awari_levels::{run_text, run_verify};
 pub use awari_queries::{AskQuery, LineQuery, MovesQuery, ServeQuery, VerifyQuery};
 pub use beside::BuildProgress;
 pub use building::{Builder, run_build_in};
-pub use disk::Disk;
 pub use estimates::Estimate;
-pub use hosts::{Host, Machine, Purpose};
 pub use laws::one_file_for_every_schedule;
 pub use migrating::run_migrate;
 pub use progress::{HowTold, ProgressLines};

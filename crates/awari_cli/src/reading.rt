@@ -2,14 +2,14 @@
 
 ghost use Rattle.std.specs.Prelude.{◌≡◌, ◌≤◌};
 ghost use Rattle.awari_cli.specs.Done.{PrintsAnswer, PrintsNumbers};
-ghost use Rattle.awari_cli.specs.Hosts.{AllStay};
+ghost use Rattle.awari_host.specs.Hosts.{AllStay};
 ghost use Rattle.awari_folder.specs.Contents.{Same};
 
-use crate::hosts::{Host, Purpose};
 use crate::serving::run_serve;
 use awari_answers::{NoAnswer, Replies, Streams, print, refuse};
 use awari_boards::{run_ask, run_line, run_moves};
 use awari_folder::Folder;
+use awari_host::{Host, Purpose};
 use awari_levels::{run_all_boards, run_boards, run_counts, run_text, run_verify};
 use awari_pairs::run_pairs;
 use awari_queries::CountsQuery;

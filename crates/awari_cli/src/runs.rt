@@ -4,7 +4,7 @@ ghost use Rattle.std.specs.Prelude.{◌≡◌, ◌≢◌, ◌≤◌, [], Some, m
 ghost use Rattle.std.specs.Io.KnownBytes.{Keeps};
 ghost use Rattle.awari_check.specs.Answer.{PrintsYes};
 ghost use Rattle.awari_cli.specs.Done.{LeavesFolders, PrintsFor, WritesInto};
-ghost use Rattle.awari_cli.specs.Hosts.{AllStay};
+ghost use Rattle.awari_host.specs.Hosts.{AllStay};
 ghost use Rattle.awari_boards.specs.Judgement.{PrintsJudgement, bytes_of};
 ghost use Rattle.awari_boards.specs.Playing.{PrintsMove};
 ghost use Rattle.awari_words.specs.Commands.{awari_commands};
@@ -13,12 +13,12 @@ ghost use Rattle.awari_words.specs.declared.requests.Request.{Request as AReques
 ghost use Rattle.clap.specs.Faults.{fault_of};
 ghost use Rattle.clap.specs.Simple.{subcommand_of, subcommand_rows_of};
 
-use crate::hosts::Host;
 use crate::reading::{Reading, run_reading};
 use crate::writing::{Migration, run_build_asked, run_estimate, run_migration};
 use awari_answers::{Replies, Streams, print, refuse, status_of, tell_answer};
 use awari_boards::{Played, judge, play_on, run_board, run_plays, run_rank};
 use awari_check::check_input;
+use awari_host::Host;
 use awari_streams::Counted;
 use awari_words::{Request, request_of, understand};
 use clap::ArgMatches;

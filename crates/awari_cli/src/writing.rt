@@ -3,18 +3,18 @@
 ghost use Rattle.std.specs.Prelude.{◌≡◌, ◌≢◌, ◌≤◌, ℕ, List, Some};
 ghost use Rattle.awari_cli.specs.Building.{PrintsAllLevels, PrintsLevels};
 ghost use Rattle.awari_cli.specs.Done.{IsFolder, LeavesFolders, PrintsBrought, PrintsBuild, PrintsBuilt};
-ghost use Rattle.awari_cli.specs.Hosts.{AllStay, OthersStay};
+ghost use Rattle.awari_host.specs.Hosts.{AllStay, OthersStay};
 ghost use Rattle.awari_folder.specs.Contents.{Same};
 ghost use Rattle.awari_folder.specs.Migration.{KeepsFiles};
 
 use crate::building::{Builder, build_up_in, run_build};
 use crate::estimates::{Estimate, warn_of_memory};
-use crate::hosts::{Host, Purpose};
 use crate::migrating::run_migrate;
 use crate::progress::{HowTold, ProgressLines};
 use awari_answers::{Replies, Streams, load_watched, print, refuse};
 use awari_folder::Folder;
 use awari_heard::{Progress, Silent};
+use awari_host::{Host, Purpose};
 use awari_words::BuildQuery;
 use rayon::current_num_threads;
 use std::alloc::Global;

@@ -1,8 +1,9 @@
 //! The folders on disk, and what the error stream says of them beside a number. Of what it says nothing
 //! is promised.
 
-ghost use Rattle.std.specs.Prelude.{◌≡◌, ◌↔◌, IsSome, IfSome};
-ghost use Rattle.awari_cli.specs.Gaps.{HasAbove, IsFirstMissing};
+ghost use Rattle.std.specs.Prelude.{◌≡◌, ◌↔◌, IsSome, IfErr, IfSome};
+ghost use Rattle.awari_host.specs.Gaps.{HasAbove, IsFirstMissing};
+ghost use Rattle.awari_host.specs.Hosts.{IsLockFault};
 
 use crate::hosts::{Host, Machine, Purpose};
 use crate::machine::memory_left;
@@ -143,7 +144,9 @@ fn tell_said<E: Write>(name: &str, said: Said, errors: &mut E) {
 fn try_writing<T: Files<File = File>>(
     folder: &mut HostFolder<'_, T>,
     level: u8,
-) -> Result<(), FolderFault> {
+) -> Result<(), FolderFault>
+    ensures { IfErr result IsLockFault }
+{
     if level > HIGHEST_LEVEL {
         return Ok(());
     }

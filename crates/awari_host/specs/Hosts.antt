@@ -1,10 +1,18 @@
 -- What is known of the folders on a host, by their names.
-use Rattle.std.specs.Prelude.{◌≡◌, ◌≢◌, ℕ, List, Option}
+use Rattle.std.specs.Prelude.{◌≡◌, ◌≢◌, ⊤, ℕ, List, Option}
 use Rattle.awari_folder.specs.Contents.{Same}
+use Rattle.awari_folder.specs.declared.faults.FolderFault.{FolderFault}
+use Rattle.awari_folder.specs.declared.faults.FolderFault.TheVariants.{Open, Memory}
 
 -- what the names of levels have in a folder, if that is known
 abbrev pub Stands : Type 0
 Stands = ℕ → Option (Option (List ℕ))
+
+-- it is 82 or 84
+abbrev pub IsLockFault : FolderFault → Type 0
+IsLockFault (Open level) = ⊤
+IsLockFault Memory = ⊤
+IsLockFault fault = ⊥
 
 -- Each folder has what it had, but the one of this name.
 abbrev pub OthersStay : List ℕ → (List ℕ → Stands) → (List ℕ → Stands) → Type 0

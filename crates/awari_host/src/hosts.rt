@@ -1,7 +1,7 @@
 //! What a host is asked for: the folders that the words name.
 
-ghost use Rattle.std.specs.Prelude.{◌≡◌, ℕ, List, Option};
-ghost use Rattle.awari_cli.specs.Hosts.{OthersStay};
+ghost use Rattle.std.specs.Prelude.{◌≡◌, ℕ, List, Option, IfErr};
+ghost use Rattle.awari_host.specs.Hosts.{IsLockFault, OthersStay};
 
 use awari_folder::{Folder, FolderFault};
 use std::io::Write;
@@ -58,7 +58,8 @@ pub trait Host<'a> {
         top: u8,
         errors: &mut E,
     ) -> Result<(), FolderFault>
-        ensures { (Self.Folder.state folder.new).stands ≡ (Self.Folder.state folder.old).stands };
+        ensures stands { (Self.Folder.state folder.new).stands ≡ (Self.Folder.state folder.old).stands }
+        ensures refused { IfErr result IsLockFault };
 
     /// Tells why a call on the folder was refused, if one was. The folder was opened under this name. A
     /// host that keeps no words of its own tells nothing.
