@@ -1,6 +1,7 @@
 pub mod Lying
 pub mod Saying
 pub mod Reading
+pub mod Refusing
 pub mod Framing
 pub mod Playing
 pub mod Running

@@ -1,4 +1,5 @@
 pub mod Places
 pub mod Opening
+pub mod Faults
 pub mod Judging
 pub mod Runs

@@ -5,10 +5,11 @@ ghost use Rattle.awari_file.specs.Reading.{entry_of as entry_of_six};
 ghost use Rattle.awari_folder.specs.Contents.{IsOfFile, Reads};
 ghost use Rattle.awari_folder.specs.FolderFault.{Names};
 ghost use Rattle.awari_folder.specs.State.{OnlyReads};
-ghost use Rattle.awari_rank.specs.Rank.{size_of};
+ghost use Rattle.awari_rank.specs.Rank.{rank_of, size_of};
 ghost use Rattle.awari_table.specs.Images.{entry_of};
 ghost use Rattle.awari_table.specs.declared.TheConstants.{HIGHEST_LEVEL};
 ghost use Rattle.awari_table.specs.declared.images.Image.{Image};
+ghost use Rattle.awari_places.specs.Faults.{IsEntryFault, IsFileFaultAt, IsRefusedAt};
 ghost use Rattle.awari_places.specs.Places.{IsLevelOf, Says, entry_in, entry_or_none};
 
 use awari_board::Board;
@@ -28,6 +29,7 @@ pub fn entry<F: Folder>(folder: &mut F, levels: u8, board: &Board) -> Result<Ent
     ensures entry { (images : List Image) → Says (F.state folder.old).stands levels images → IfOk result (λ e. e ≡ entry_of images board.now) }
     ensures reads { OnlyReads result (F.state folder.old) (F.state folder.new) }
     ensures named { IfErr result (Names (sum board.now)) }
+    ensures fault { IfErr result (IsRefusedAt (F.state folder.old).stands board.now) }
 {
     entry_of_rank(folder, board.stones(), rank(board))
 }
@@ -38,6 +40,7 @@ fn entry_of_rank<F: Folder>(folder: &mut F, level: u8, rank: u32) -> Result<Entr
     ensures entry { (name : Option (List ℕ)) → (F.state folder.old).stands level ≡ Some name → IfOk result (λ e. IsSomeAnd name (λ bytes. e ≡ entry_in bytes rank)) }
     ensures reads { OnlyReads result (F.state folder.old) (F.state folder.new) }
     ensures named { IfErr result (Names level) }
+    ensures fault { IfErr result (IsEntryFault level rank ((F.state folder.old).stands level)) }
 {
     let place = entry_place(rank);
     let mut bytes = [0; ENTRY_LEN];
@@ -56,6 +59,7 @@ fn read_entry(level: u8, place: u64, size: Option<u64>, bytes: &[u8]) -> Result<
         → IfOk result (λ e. IsSomeAnd name (λ all. e ≡ entry_or_none (entry_of_six (take 6 (drop place all))))) }
     ensures named { IfErr result (Names level) }
     ensures of_file { IfErr result IsOfFile }
+    ensures fault { (known : Option (Option (List ℕ))) → Reads known place bytes.now size → IfErr result (IsFileFaultAt level place known) }
 {
     let fault = match size {
         None => FileFault::Read,

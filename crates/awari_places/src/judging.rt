@@ -1,13 +1,18 @@
 //! Boards that are judged by the rules of a table, one by one.
 
-ghost use Rattle.std.specs.Prelude.{◌≡◌, ◌<◌, ◌≤◌, ℕ, List, None, IfOk, length, slice_index_or, sum};
+ghost use Rattle.std.specs.Prelude.{◌≡◌, ◌<◌, ◌≤◌, ℕ, List, None, IfErr, IfOk, length, slice_index_or, sum};
+ghost use Rattle.awari_board.specs.Rules.{IsBoard};
 ghost use Rattle.awari_folder.specs.State.{Unchanged};
+ghost use Rattle.awari_folder.specs.declared.faults.FolderFault.TheVariants.{Verify};
+ghost use Rattle.awari_rank.specs.Rank.{rank_of};
 ghost use Rattle.awari_table.specs.Certificate.{IsRight};
 ghost use Rattle.awari_table.specs.Images.{table_of};
 ghost use Rattle.awari_table.specs.Reached.{Reaches};
 ghost use Rattle.awari_table.specs.declared.TheConstants.{HIGHEST_LEVEL};
 ghost use Rattle.awari_table.specs.declared.images.Image.{Image};
 ghost use Rattle.awari_verify.specs.Sights.{Sees};
+ghost use Rattle.awari_verify.specs.declared.verdicts.VerifyFault.TheVariants.{Refused};
+ghost use Rattle.awari_places.specs.Faults.{IsJudgeFault, IsLookFault};
 ghost use Rattle.awari_places.specs.Places.{IsLevelOf, Says};
 
 use crate::entries::entry;
@@ -29,6 +34,7 @@ pub(crate) fn judged<F: Folder>(
     ensures sees { (images : List Image) → Says (F.state folder.old).stands levels images → IfOk result (Sees (table_of images) board.now) }
     ensures right { (images : List Image) → Says (F.state folder.old).stands levels images → IfOk result (λ _. IsRight (table_of images) board.now) }
     ensures same { Unchanged (F.state folder.old) (F.state folder.new) }
+    ensures fault { IfErr result (IsJudgeFault levels (F.state folder.old).stands) }
 {
     let seen = see(folder, levels, board)?;
     match first_broken_rule(&seen) {
@@ -40,6 +46,8 @@ pub(crate) fn judged<F: Folder>(
 /// The refusal of a board that breaks a rule.
 fn broken(board: &Board, rule: Rule) -> FolderFault
     requires { sum board.now ≤ HIGHEST_LEVEL }
+    ensures board { IsBoard board.now }
+    ensures told { result ≡ Verify (sum board.now) (Refused (rank_of board.now) rule) }
 {
     FolderFault::Verify {
         level: board.stones(),
@@ -55,6 +63,7 @@ fn see<F: Folder>(folder: &mut F, levels: u8, board: &Board) -> Result<Seen, Fol
     requires { IsLevelOf levels (sum board.now) }
     ensures sees { (images : List Image) → Says (F.state folder.old).stands levels images → IfOk result (Sees (table_of images) board.now) }
     ensures same { Unchanged (F.state folder.old) (F.state folder.new) }
+    ensures look { IfErr result (IsLookFault levels (F.state folder.old).stands) }
 {
     let entry = entry(folder, levels, board)?;
     let moves = see_moves(folder, levels, board)?;
@@ -77,6 +86,7 @@ fn see_moves<F: Folder>(
     ensures moves { (images : List Image) → Says (F.state folder.old).stands levels images
         → IfOk result (λ moves. (x : ℕ) → x < 6 → Reaches (table_of images) board.now x (slice_index_or moves x None)) }
     ensures same { Unchanged (F.state folder.old) (F.state folder.new) }
+    ensures look { IfErr result (IsLookFault levels (F.state folder.old).stands) }
 {
     let mut moves = [None; 6];
     for pit in 0..SIDE {
@@ -95,6 +105,7 @@ fn see_move<F: Folder>(
     requires { IsLevelOf levels (sum board.now) }
     ensures reached { (images : List Image) → Says (F.state folder.old).stands levels images → IfOk result (Reaches (table_of images) board.now pit) }
     ensures same { Unchanged (F.state folder.old) (F.state folder.new) }
+    ensures look { IfErr result (IsLookFault levels (F.state folder.old).stands) }
 {
     if !board.legal(pit) {
         return Ok(None);

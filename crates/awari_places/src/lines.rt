@@ -1,12 +1,15 @@
 //! Play by the plans of both sides, as the files say them, up to the first outcome.
 
-ghost use Rattle.std.specs.Prelude.{◌≡◌, List, Some, IfOk, sum};
-ghost use Rattle.awari_board.specs.Rules.{IsLegal};
+ghost use Rattle.std.specs.Prelude.{◌≡◌, List, Some, IfErr, IfOk, OnErr, sum};
+ghost use Rattle.awari_board.specs.Rules.{IsBoard, IsLegal};
+ghost use Rattle.awari_file.specs.declared.faults.FileFault.TheVariants as file_fault;
+ghost use Rattle.awari_folder.specs.declared.faults.FolderFault.TheVariants.{File};
 ghost use Rattle.awari_folder.specs.State.{Unchanged};
 ghost use Rattle.awari_game.specs.Plays.{IsPlay, Standing, start};
 ghost use Rattle.awari_play.specs.BestLine.{IsBestLine};
 ghost use Rattle.awari_table.specs.Images.{table_of};
 ghost use Rattle.awari_table.specs.declared.images.Image.{Image};
+ghost use Rattle.awari_places.specs.Faults.{IsLineFault, IsNotLegal};
 ghost use Rattle.awari_places.specs.Places.{IsLevelOf, Says};
 
 use crate::entries::entry;
@@ -34,6 +37,7 @@ pub fn best_line<F: Folder>(
     ensures line { (images : List Image) → Says (F.state folder.old).stands opened.levels images → IfOk result (λ line. IsBestLine (table_of images) opened.limit board line.moves.items line.outcome) }
     ensures play { IfOk result (λ line. (last : Standing) × IsPlay (start board) line.moves.items last) }
     ensures same { Unchanged (F.state folder.old) (F.state folder.new) }
+    ensures fault { IfErr result (IsLineFault opened.levels (F.state folder.old).stands) }
 {
     play_out(alloc, folder, opened.levels, opened.limit, board)
 }
@@ -50,6 +54,7 @@ fn play_out<F: Folder>(
     ensures line { (images : List Image) → Says (F.state folder.old).stands levels images → IfOk result (λ line. IsBestLine (table_of images) limit board line.moves.items line.outcome) }
     ensures play { IfOk result (λ line. (last : Standing) × IsPlay (start board) line.moves.items last) }
     ensures same { Unchanged (F.state folder.old) (F.state folder.new) }
+    ensures fault { IfErr result (IsLineFault levels (F.state folder.old).stands) }
 {
     let mut game = Game::start(board);
     let mut moves = Vec::new(alloc);
@@ -69,6 +74,7 @@ fn plan<F: Folder>(folder: &mut F, levels: u8, board: &Board) -> Result<u8, Fold
     ensures plan { (images : List Image) → Says (F.state folder.old).stands levels images → IfOk result (λ pit. (table_of images).plan board.now ≡ Some pit) }
     ensures legal { IfOk result (IsLegal board.now) }
     ensures same { Unchanged (F.state folder.old) (F.state folder.new) }
+    ensures fault { IfErr result (IsLineFault levels (F.state folder.old).stands) }
 {
     let entry = entry(folder, levels, board)?;
     legal_pit(board, entry.plan)
@@ -78,6 +84,9 @@ fn plan<F: Folder>(folder: &mut F, levels: u8, board: &Board) -> Result<u8, Fold
 pub(crate) fn legal_pit(board: &Board, pit: Option<u8>) -> Result<u8, FolderFault>
     ensures pit { IfOk result (λ x. pit ≡ Some x) }
     ensures legal { IfOk result (IsLegal board.now) }
+    ensures board { OnErr result (IsBoard board.now) }
+    ensures told { IfErr result (λ fault. fault ≡ File (sum board.now) file_fault.EntryForm) }
+    ensures illegal { OnErr result (IsNotLegal board.now pit) }
 {
     match pit {
         Some(pit) if board.legal(pit) => Ok(pit),

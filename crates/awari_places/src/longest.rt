@@ -1,17 +1,18 @@
 //! Play in which the favoured side follows the plans that the files say, and the other side holds out.
 
-ghost use Rattle.std.specs.Prelude.{◌≡◌, ◌↔◌, ℕ, List, IsTrue, IfOk, IfSome, pos, ◌<ℤ◌, sum};
+ghost use Rattle.std.specs.Prelude.{◌≡◌, ◌↔◌, ℕ, List, IsTrue, IfErr, IfOk, IfSome, IsSome, pos, ◌<ℤ◌, sum};
 ghost use Rattle.awari_board.specs.Rules.{IsBoard, IsLegal};
 ghost use Rattle.awari_folder.specs.State.{Unchanged};
 ghost use Rattle.awari_game.specs.Plays.{IsPlay, Standing, start};
 ghost use Rattle.awari_play.specs.Holding.{TakesPlies};
 ghost use Rattle.awari_play.specs.LongestLine.{HoldsLongest, IsLongestLine};
-ghost use Rattle.awari_table.specs.Certificate.{IsRight, MovesNoLater, Table};
+ghost use Rattle.awari_table.specs.Certificate.{IsRight, MovesIn, MovesNoLater, Table};
 ghost use Rattle.awari_table.specs.Images.{table_of};
 ghost use Rattle.awari_table.specs.Reached.{Reaches};
 ghost use Rattle.awari_table.specs.declared.images.Image.{Image};
 ghost use Rattle.awari_verify.specs.Sights.{Sees};
 ghost use Rattle.awari_places.specs.Judging.{IsDueAt};
+ghost use Rattle.awari_places.specs.Faults.{IsDueFault, IsLongestFault};
 ghost use Rattle.awari_places.specs.Places.{IsLevelOf, Says};
 
 use crate::judging::judged;
@@ -41,6 +42,7 @@ pub fn longest_line<F: Folder>(
     ensures line { (images : List Image) → Says (F.state folder.old).stands levels images → IfOk result (λ moves. IsLongestLine (table_of images) board moves.items) }
     ensures play { IfOk result (λ moves. (last : Standing) × IsPlay (start board) moves.items last) }
     ensures same { Unchanged (F.state folder.old) (F.state folder.new) }
+    ensures fault { IfErr result (IsLongestFault levels (F.state folder.old).stands) }
 {
     let seen = judged(folder, levels, &board)?;
     hold_out(alloc, folder, levels, board, seen.entry.dist)
@@ -60,6 +62,7 @@ fn hold_out<F: Folder>(
     ensures line { (images : List Image) → Says (F.state folder.old).stands levels images → IfOk result (λ moves. IsLongestLine (table_of images) board moves.items) }
     ensures play { IfOk result (λ moves. (last : Standing) × IsPlay (start board) moves.items last) }
     ensures same { Unchanged (F.state folder.old) (F.state folder.new) }
+    ensures fault { IfErr result (IsLongestFault levels (F.state folder.old).stands) }
 {
     let mut game = Game::start(board);
     let mut moves = Vec::new(alloc);
@@ -78,6 +81,7 @@ fn due_pit<F: Folder>(folder: &mut F, levels: u8, board: &Board) -> Result<u8, F
     ensures due { (images : List Image) → Says (F.state folder.old).stands levels images → IfOk result (IsDueAt (table_of images) board.now) }
     ensures legal { IfOk result (IsLegal board.now) }
     ensures same { Unchanged (F.state folder.old) (F.state folder.new) }
+    ensures fault { IfErr result (IsDueFault levels (F.state folder.old).stands board.now) }
 {
     let seen = judged(folder, levels, board)?;
     legal_pit(board, pit_by(&seen))
@@ -87,6 +91,7 @@ fn due_pit<F: Folder>(folder: &mut F, levels: u8, board: &Board) -> Result<u8, F
 fn pit_by(seen: &Seen) -> Option<u8>
     ensures favoured { pos 0 <ℤ seen.now.entry.value → result ≡ seen.now.entry.plan }
     ensures other { seen.now.entry.value <ℤ pos 0 → (t : Table) (p : List ℕ) → Sees t p seen.now → MovesNoLater t p seen.now.entry.dist → IfSome result (HoldsLongest t p) }
+    ensures some { seen.now.entry.value <ℤ pos 0 → (t : Table) (p : List ℕ) → Sees t p seen.now → MovesIn t p seen.now.entry.dist → IsSome result }
 {
     if seen.entry.value > 0 {
         return seen.entry.plan;
@@ -96,7 +101,8 @@ fn pit_by(seen: &Seen) -> Option<u8>
 
 /// The lowest pit whose move takes as many plies as the board's distance.
 fn stubborn_pit(seen: &Seen) -> Option<u8>
-    ensures { (t : Table) (p : List ℕ) → Sees t p seen.now → MovesNoLater t p seen.now.entry.dist → IfSome result (HoldsLongest t p) }
+    ensures holds { (t : Table) (p : List ℕ) → Sees t p seen.now → MovesNoLater t p seen.now.entry.dist → IfSome result (HoldsLongest t p) }
+    ensures some { (t : Table) (p : List ℕ) → Sees t p seen.now → MovesIn t p seen.now.entry.dist → IsSome result }
 {
     for pit in 0..SIDE {
         if takes(seen.moves[pit as usize], seen.entry.dist) {

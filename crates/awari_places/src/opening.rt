@@ -5,6 +5,7 @@ ghost use Rattle.awari_table.specs.declared.TheConstants.{HIGHEST_LEVEL};
 ghost use Rattle.awari_folder.specs.Contents.{AreNames, IsOfFile};
 ghost use Rattle.awari_folder.specs.State.{OnlyReads, Unchanged};
 ghost use Rattle.awari_table.specs.declared.images.Image.{Image};
+ghost use Rattle.awari_places.specs.Faults.{IsLimitFault};
 ghost use Rattle.awari_places.specs.Opening.{AreFramed, IsFrame, IsFrameFault, IsOpenFault, framed_of};
 ghost use Rattle.awari_places.specs.Places.{Says};
 
@@ -71,6 +72,7 @@ pub fn limit_in_header<F: Folder>(folder: &mut F, level: u8) -> Result<u32, Fold
     ensures limit { (levels : ℕ) (images : List Image) → Says (F.state folder.old).stands levels images → level < levels
         → IfOk result (λ limit. IsSomeAnd (slice_get images level) (λ image. limit ≡ image.limit)) }
     ensures same { Unchanged (F.state folder.old) (F.state folder.new) }
+    ensures fault { (name : Option (List ℕ)) → (F.state folder.old).stands level ≡ Some name → IfErr result (IsLimitFault level name) }
 {
     match frame_of(folder, level) {
         Ok(Some(limit)) => Ok(limit),

@@ -1,6 +1,6 @@
 //! A line of play ply by ply, by the files where they lie.
 
-ghost use Rattle.std.specs.Prelude.{◌≡◌, ◌≤◌, ◌++◌, ◌∷◌, [], ℕ, List, IfOk, IfSome, length, pos, sum};
+ghost use Rattle.std.specs.Prelude.{◌≡◌, ◌≤◌, ◌++◌, ◌∷◌, [], ℕ, List, IfErr, IfOk, IfSome, length, pos, sum};
 ghost use Rattle.std.specs.Ordering.{int_eq};
 ghost use Rattle.awari_board.specs.Rules.{IsBoard, IsLegal};
 ghost use Rattle.awari_folder.specs.State.{Unchanged};
@@ -9,6 +9,7 @@ ghost use Rattle.awari_game.specs.Shown.{Shows};
 ghost use Rattle.awari_play.specs.Plies.{AreLinePlies, IsLineBy, IsRepeatIf, boards_in, plies_of, ply_of};
 ghost use Rattle.awari_table.specs.Images.{entry_of, greatest_limit};
 ghost use Rattle.awari_table.specs.declared.images.Image.{Image};
+ghost use Rattle.awari_places.specs.Faults.{IsLookFault, IsPliesFault};
 ghost use Rattle.awari_places.specs.Places.{IsLevelOf, Says};
 
 use crate::entries::entry;
@@ -37,6 +38,7 @@ pub fn line_plies<F: Folder>(
         → IfOk result (λ found. AreLinePlies longest images board found.plies.items found.repeat) }
     ensures within { IfOk result (λ found. IfSome found.repeat (λ r. r.again ≤ length found.plies.items)) }
     ensures same { Unchanged (F.state folder.old) (F.state folder.new) }
+    ensures fault { IfErr result (IsPliesFault longest opened.levels (F.state folder.old).stands) }
 {
     let moves = moves_of(alloc, folder, opened, board, longest)?;
     told_plies(alloc, folder, opened.levels, board, moves.as_slice())
@@ -55,6 +57,7 @@ fn moves_of<F: Folder>(
         → IfOk result (λ moves. IsLineBy longest images board moves.items) }
     ensures play { IfOk result (λ moves. (last : Standing) × IsPlay (start board) moves.items last) }
     ensures same { Unchanged (F.state folder.old) (F.state folder.new) }
+    ensures fault { IfErr result (IsPliesFault longest opened.levels (F.state folder.old).stands) }
 {
     if longest {
         return longest_line(alloc, folder, opened.levels, board);
@@ -77,6 +80,7 @@ fn told_plies<F: Folder>(
     ensures repeats { (images : List Image) → Says (F.state folder.old).stands levels images → IfOk result (λ found. IsRepeatIf (int_eq (entry_of images board).value (pos 0)) (boards_in board found.plies.items) found.repeat) }
     ensures within { IfOk result (λ found. IfSome found.repeat (λ r. r.again ≤ length found.plies.items)) }
     ensures same { Unchanged (F.state folder.old) (F.state folder.new) }
+    ensures look { IfErr result (IsLookFault levels (F.state folder.old).stands) }
 {
     let entry = entry(folder, levels, &board)?;
     let plies = plies_of(alloc, folder, levels, board, moves)?;
@@ -96,6 +100,7 @@ fn plies_of<F: Folder>(
     requires play { (last : Standing) × IsPlay (start board) moves.now last }
     ensures plies { (images : List Image) → Says (F.state folder.old).stands levels images → IfOk result (λ plies. plies.items ≡ plies_of images 1 (start board) moves.now) }
     ensures same { Unchanged (F.state folder.old) (F.state folder.new) }
+    ensures look { IfErr result (IsLookFault levels (F.state folder.old).stands) }
 {
     let mut game = Game::start(board);
     let mut plies = Vec::new(alloc);
@@ -121,6 +126,7 @@ fn play_ply<F: Folder>(
         → IfOk result (λ ply. (board pits : List ℕ) (shows : Shows game.old board pits) → ply ≡ ply_of images number shows.standing pit) }
     ensures played { IfOk result (λ _. (board pits : List ℕ) → Shows game.old board pits → Shows game.new board (pits ++ pit ∷ [])) }
     ensures same { Unchanged (F.state folder.old) (F.state folder.new) }
+    ensures look { IfErr result (IsLookFault levels (F.state folder.old).stands) }
 {
     let Ok(moved) = game.board().play(pit) else {
         unreachable!()

@@ -1,10 +1,11 @@
 //! The replies that a move leaves to the opponent, by the entries of the boards that they leave.
 
-ghost use Rattle.std.specs.Prelude.{List, IfOk, sum};
+ghost use Rattle.std.specs.Prelude.{List, IfErr, IfOk, sum};
 ghost use Rattle.awari_board.specs.Rules.{IsLegal};
 ghost use Rattle.awari_folder.specs.State.{Unchanged};
 ghost use Rattle.awari_play.specs.Worths.{AreReplies};
 ghost use Rattle.awari_table.specs.declared.images.Image.{Image};
+ghost use Rattle.awari_places.specs.Faults.{IsLookFault};
 ghost use Rattle.awari_places.specs.Places.{IsLevelOf, Says};
 
 use crate::entries::entry;
@@ -24,6 +25,7 @@ pub(crate) fn replies_to<F: Folder>(
     requires legal { IsLegal board.now pit }
     ensures replies { (images : List Image) → Says (F.state folder.old).stands levels images → IfOk result (AreReplies images board.now pit) }
     ensures same { Unchanged (F.state folder.old) (F.state folder.new) }
+    ensures look { IfErr result (IsLookFault levels (F.state folder.old).stands) }
 {
     let Ok(moved) = board.play(pit) else {
         unreachable!()

@@ -1,10 +1,11 @@
 //! A board's entry and what its moves are worth, by the files where they lie.
 
-ghost use Rattle.std.specs.Prelude.{◌≡◌, ◌≤◌, All, List, IfOk, length, map, sum};
+ghost use Rattle.std.specs.Prelude.{◌≡◌, ◌≤◌, All, List, IfErr, IfOk, length, map, sum};
 ghost use Rattle.awari_board.specs.Rules.{IsLegal};
 ghost use Rattle.awari_folder.specs.State.{Unchanged};
 ghost use Rattle.awari_play.specs.Worths.{IsReplied, IsWeighed, worth_in};
 ghost use Rattle.awari_table.specs.declared.images.Image.{Image};
+ghost use Rattle.awari_places.specs.Faults.{IsLookFault};
 ghost use Rattle.awari_places.specs.Places.{IsLevelOf, Says};
 
 use crate::entries::entry;
@@ -28,6 +29,7 @@ pub fn weigh<F: Folder>(
     requires { IsLevelOf levels (sum board.now) }
     ensures weighed { (images : List Image) → Says (F.state folder.old).stands levels images → IfOk result (IsWeighed replies images board.now) }
     ensures same { Unchanged (F.state folder.old) (F.state folder.new) }
+    ensures fault { IfErr result (IsLookFault levels (F.state folder.old).stands) }
 {
     let entry = entry(folder, levels, board)?;
     let worths = worths_of(folder, levels, board)?;
@@ -49,6 +51,7 @@ fn with_replies<F: Folder>(
     ensures worths { IfOk result (λ moves. map worth_in moves.items ≡ worths.now) }
     ensures replies { (images : List Image) → Says (F.state folder.old).stands levels images → IfOk result (λ moves. All (IsReplied asked images board.now) moves.items) }
     ensures same { Unchanged (F.state folder.old) (F.state folder.new) }
+    ensures look { IfErr result (IsLookFault levels (F.state folder.old).stands) }
 {
     let mut moves = ArrayVec::new();
     for worth in worths {
@@ -70,6 +73,7 @@ fn weighed_move<F: Folder>(
     ensures worth { IfOk result (λ moves. moves.worth ≡ worth) }
     ensures replies { (images : List Image) → Says (F.state folder.old).stands levels images → IfOk result (IsReplied asked images board.now) }
     ensures same { Unchanged (F.state folder.old) (F.state folder.new) }
+    ensures look { IfErr result (IsLookFault levels (F.state folder.old).stands) }
 {
     if !asked {
         let replies = None;

@@ -7,6 +7,7 @@ use Rattle.awari_desk.specs.declared.faults.ProbeFault.TheVariants.{Board, Ask}
 use Rattle.awari_folder.specs.Contents.{Same}
 use Rattle.awari_folder.specs.State.{State}
 use Rattle.awari_places.proofs.Reading.{still_says}
+use Rattle.awari_places.proofs.Refusing.{look_before, refused_before}
 use Rattle.awari_play.specs.declared.weighing.Weighed.{Weighed}
 use Rattle.awari_table.specs.declared.images.Entry.{Entry}
 use Rattle.awari_unverified.specs.Held.{Keeps, by_lent, stands_in}
@@ -22,13 +23,13 @@ Stands = ℕ → Option (Option (List ℕ))
 entry_before : (old new : Stands) → Same old new → (levels then : ℕ) (board : List ℕ) (said : Result Entry Unsaid) → IsEntrySaid new levels then board said → IsEntrySaid old levels then board said
 entry_before old new same levels then board (Ok e) (stay, low, is) = (stay, low, λ images says. is images (still_says old new levels images same says))
 entry_before old new same levels then board (Err (NotYet below)) is = is
-entry_before old new same levels then board (Err (Folder fault)) is = is
+entry_before old new same levels then board (Err (Folder fault)) (stay, low, is) = (stay, low, refused_before old new board fault same is)
 
 moves_before : (replies : Bool) (old new : Stands) → Same old new → (levels then : ℕ) (board : List ℕ) (said : Result Weighed Unsaid) → AreMovesSaid replies new levels then board said
     → AreMovesSaid replies old levels then board said
 moves_before replies old new same levels then board (Ok w) (stay, low, is) = (stay, low, λ images says. is images (still_says old new levels images same says))
 moves_before replies old new same levels then board (Err (NotYet below)) is = is
-moves_before replies old new same levels then board (Err (Folder fault)) is = is
+moves_before replies old new same levels then board (Err (Folder fault)) (stay, low, is) = (stay, low, look_before old new levels fault same is)
 
 module _ {F : Type 0} (state : F → State) where
   keeps_all : (files : Files F) → Keeps state files files

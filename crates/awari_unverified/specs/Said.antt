@@ -3,7 +3,7 @@ use Rattle.std.specs.Prelude.{◌≡◌, ℕ, ◌<◌, ◌≤◌, Bool, List, Op
 use Rattle.awari_desk.specs.Answering.{Answering}
 use Rattle.awari_desk.specs.Service.{IsInput, HasServed}
 use Rattle.awari_folder.specs.Contents.{AreNames}
-use Rattle.awari_folder.specs.FolderFault.{Names}
+use Rattle.awari_places.specs.Faults.{IsLookFault, IsRefusedAt}
 use Rattle.awari_places.specs.Opening.{AreFramed}
 use Rattle.awari_places.specs.Places.{Says}
 use Rattle.awari_places.specs.declared.opening.Opened.{Opened}
@@ -18,17 +18,17 @@ use Rattle.awari_unverified.specs.declared.unsaid.Unsaid.{Unsaid}
 use Rattle.awari_unverified.specs.declared.unsaid.Unsaid.TheVariants.{NotYet, Folder}
 
 -- The levels that are known stay. A board of one of them has this entry, where it is known what has the names: the one that the files
--- say. Or its level's file is refused. Any other board has no answer yet.
+-- say. Or it is refused as what has the name of its level is due to be. Any other board has no answer yet.
 abbrev pub IsEntrySaid : (ℕ → Option (Option (List ℕ))) → ℕ → ℕ → List ℕ → Result Entry Unsaid → Type 0
 IsEntrySaid stands levels then board (Ok e) = (then ≡ levels) × (sum board < levels) × ((images : List Image) → Says stands levels images → e ≡ entry_of images board)
 IsEntrySaid stands levels then board (Err (NotYet below)) = (then ≡ levels) × (levels ≤ sum board) × (below ≡ levels)
-IsEntrySaid stands levels then board (Err (Folder fault)) = (then ≡ levels) × (sum board < levels) × Names (sum board) fault
+IsEntrySaid stands levels then board (Err (Folder fault)) = (then ≡ levels) × (sum board < levels) × IsRefusedAt stands board fault
 
--- The same of what its moves are worth, with the replies to them if these are asked for.
+-- The same of what its moves are worth, with the replies to them if these are asked for. Or some board that is looked at is refused so.
 abbrev pub AreMovesSaid : Bool → (ℕ → Option (Option (List ℕ))) → ℕ → ℕ → List ℕ → Result Weighed Unsaid → Type 0
 AreMovesSaid replies stands levels then board (Ok w) = (then ≡ levels) × (sum board < levels) × ((images : List Image) → Says stands levels images → IsWeighed replies images board w)
 AreMovesSaid replies stands levels then board (Err (NotYet below)) = (then ≡ levels) × (levels ≤ sum board) × (below ≡ levels)
-AreMovesSaid replies stands levels then board (Err (Folder fault)) = (then ≡ levels) × (sum board < levels)
+AreMovesSaid replies stands levels then board (Err (Folder fault)) = (then ≡ levels) × (sum board < levels) × IsLookFault levels stands fault
 
 -- how the files of this many levels answer a service
 abbrev pub by_files : (ℕ → Option (Option (List ℕ))) → Answering ℕ Unsaid

@@ -2,6 +2,7 @@ use Rattle.std.proofs.Common.{ap}
 use Rattle.awari_table.specs.declared.images.Entry.{Entry}
 use Rattle.awari_verify.proofs.SightLemmas.{SeesEnd-end}
 use Rattle.awari_places.proofs.Reading.{still_says}
+use Rattle.awari_places.proofs.Refusing.{err_same, look_at, look_before}
 use Rattle.awari_places.proofs.judging.see.Goals as goal
 
 pub returns-clause-sees : goal.returns-clause-sees
@@ -16,3 +17,13 @@ returns-clause-sees g c = λ images says.
       six = c.in_ok-moves.ensures.six;
       moves = c.in_ok-moves.ensures.moves images (still_says _ _ _ images c.entry.ensures.reads.unchanged.stands says);
     }
+
+pub returns-in_err-entry-clause-look : goal.returns-in_err-entry-clause-look
+returns-in_err-entry-clause-look g c =
+    err_same c.from_residual.result _ _ c.from_residual.ensures.1 (
+    look_at _ _ _ _ c.requires.known c.in_err-entry.ensures.fault)
+
+pub returns-in_err-moves-clause-look : goal.returns-in_err-moves-clause-look
+returns-in_err-moves-clause-look g c =
+    err_same c.from_residual-in_err-moves.result _ _ c.from_residual-in_err-moves.ensures.1 (
+    look_before _ _ _ _ c.entry.ensures.reads.unchanged.stands c.in_err-moves.ensures.look)

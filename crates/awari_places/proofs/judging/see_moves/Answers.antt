@@ -3,6 +3,7 @@ use Rattle.awari_folder.proofs.States.{unchanged_then}
 use Rattle.awari_table.specs.Images.{table_of}
 use Rattle.awari_table.specs.Reached.{Reaches}
 use Rattle.awari_places.proofs.Reading.{still_says}
+use Rattle.awari_places.proofs.Refusing.{err_same, look_before}
 use Rattle.awari_places.proofs.judging.see_moves.Goals as goal
 
 pub loop-pit-preserved : goal.loop-pit-preserved
@@ -18,3 +19,8 @@ loop-pit-preserved g c =
           (let lt : c.loop-pit.pit < length c.loop-pit.moves = omega (arith, six, inside) in rw get_or-set_same (c.in_ok-moves.ensures.reached images (still_says _ _ _ images i.same.stands says)));
       same = unchanged_then _ _ _ i.same c.see_move.ensures.same;
     }
+
+pub returns-in_err-moves-clause-look : goal.returns-in_err-moves-clause-look
+returns-in_err-moves-clause-look g c =
+    err_same c.from_residual.result _ _ c.from_residual.ensures.1 (
+    look_before _ _ _ _ c.loop-pit.invariant.same.stands c.in_err-moves.ensures.look)

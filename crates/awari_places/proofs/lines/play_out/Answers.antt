@@ -1,4 +1,4 @@
-use Rattle.std.proofs.Common.{◌≡◌, ◌<◌, ◌^◌, SFits, Some, refl, rules, arith, subst, w16}
+use Rattle.std.proofs.Common.{◌≡◌, ◌<◌, ◌^◌, SFits, Some, inl, refl, rules, arith, subst, w16}
 use Rattle.std.proofs.lemmas.Int.{to_z-of_z}
 use Rattle.awari_board.specs.Rules.{IsLegal}
 use Rattle.awari_table.specs.Images.{table_of}
@@ -6,6 +6,7 @@ use Rattle.awari_folder.proofs.States.{unchanged_then}
 use Rattle.awari_play.proofs.Following.{HasNone, best_line-end, under_way-more, left_of-more}
 use Rattle.awari_places.proofs.Playing.{known_more}
 use Rattle.awari_places.proofs.Reading.{still_says}
+use Rattle.awari_places.proofs.Refusing.{err_same, line_before, look_memory}
 use Rattle.awari_places.proofs.lines.play_out.Goals as goal
 
 pub returns-in-Some-clause-line : goal.returns-in-Some-clause-line
@@ -35,3 +36,13 @@ loop-outcome-preserved g c =
           rw (c.in_ok-push.ensures.items) (under_way-more _ _ _ _ _ _ _ _ (i.way images says) c.board.ensures.board legal planned none played);
       same = unchanged_then _ _ _ i.same c.plan.ensures.same;
     }
+
+pub returns-in_err-pit-clause-fault : goal.returns-in_err-pit-clause-fault
+returns-in_err-pit-clause-fault g c =
+    err_same c.from_residual.result _ _ c.from_residual.ensures.1 (
+    line_before _ _ _ _ c.loop-outcome.invariant.same.stands c.in_err-pit.ensures.fault)
+
+pub returns-in_err-push-clause-fault : goal.returns-in_err-push-clause-fault
+returns-in_err-push-clause-fault g c =
+    err_same c.from_residual-in_err-push.result _ _ c.from_residual-in_err-push.ensures.1 (
+    inl (look_memory _ _ _ _ c.board.ensures.board c.loop-outcome.invariant.known refl))

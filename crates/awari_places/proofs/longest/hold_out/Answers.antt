@@ -1,4 +1,4 @@
-use Rattle.std.proofs.Common.{◌≡◌, ◌<◌, [], arith, rules, subst}
+use Rattle.std.proofs.Common.{◌≡◌, ◌<◌, [], arith, inl, refl, rules, subst}
 use Rattle.awari_folder.proofs.States.{unchanged, unchanged_then}
 use Rattle.awari_table.specs.Certificate.{IsRight}
 use Rattle.awari_table.specs.Images.{table_of}
@@ -8,6 +8,8 @@ use Rattle.awari_play.proofs.HoldingOut.{held-far, held-more, held-end, held-sta
 use Rattle.awari_places.specs.Judging.{IsDueAt}
 use Rattle.awari_places.proofs.Playing.{known_more, known_start}
 use Rattle.awari_places.proofs.Reading.{still_says}
+use Rattle.awari_places.proofs.Refusing.{due_longest, err_same, judge_before, look_memory}
+use Rattle.awari_places.specs.Faults.{IsDueFault}
 use Rattle.awari_places.proofs.longest.hold_out.Goals as goal
 
 pub loop-init : goal.loop-init
@@ -44,3 +46,23 @@ returns-clause-line g c = λ images says.
     let all : c.loop.counter ≡ (table_of images).dist c.args.board = omega (arith, c.loop-test.false, c.loop.auto.counter-end, (c.requires.judged images says).1) in
     let right = c.in_ok-judged.ensures.right images (still_says _ _ _ images i.same.stands says) in
     held-end (table_of images) _ _ _ _ _ all (subst (IsRight (table_of images)) c.board-2.ensures.shown right) (i.held images says)
+
+pub returns-in_err-pit-clause-fault : goal.returns-in_err-pit-clause-fault
+returns-in_err-pit-clause-fault g c =
+    err_same c.from_residual.result _ _ c.from_residual.ensures.1 (
+    let i = c.loop.invariant in
+    due_longest _ _ c.args.levels c.loop.game.board _ i.same.stands i.known
+    (λ images says.
+    let near : c.loop.counter < (table_of images).dist c.args.board = omega (arith, c.loop-test.true, (c.requires.judged images says).1) in
+    held-far (table_of images) _ _ _ _ _ near (i.held images says))
+    (subst (λ b. IsDueFault c.args.levels ((g.F.Folder.state c.loop.folder).stands) b c.in_err-pit.field-0.0) c.board.ensures.shown c.in_err-pit.ensures.fault))
+
+pub returns-in_err-push-clause-fault : goal.returns-in_err-push-clause-fault
+returns-in_err-push-clause-fault g c =
+    err_same c.from_residual-in_err-push.result _ _ c.from_residual-in_err-push.ensures.1 (
+    inl (inl (look_memory _ _ _ _ c.board.ensures.board c.loop.invariant.known refl)))
+
+pub returns-in_err-judged-clause-fault : goal.returns-in_err-judged-clause-fault
+returns-in_err-judged-clause-fault g c =
+    err_same c.from_residual-in_err-judged.result _ _ c.from_residual-in_err-judged.ensures.1 (
+    inl (judge_before _ _ _ _ c.loop.invariant.same.stands c.in_err-judged.ensures.fault))

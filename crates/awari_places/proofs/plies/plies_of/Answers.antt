@@ -1,9 +1,10 @@
-use Rattle.std.proofs.Common.{◌≡◌, ◌<◌, [], rules, subst, sum, sym}
+use Rattle.std.proofs.Common.{◌≡◌, ◌<◌, [], refl, rules, subst, sum, sym}
 use Rattle.std.proofs.lemmas.List.{get_or_default}
 use Rattle.awari_folder.proofs.States.{unchanged, unchanged_then}
 use Rattle.awari_play.proofs.PlyLaws.{told-start, told-more}
 use Rattle.awari_places.proofs.Playing.{known_more, known_start, legal_next, shows_more}
 use Rattle.awari_places.proofs.Reading.{levels_said, still_says}
+use Rattle.awari_places.proofs.Refusing.{err_same, look_before, look_memory}
 use Rattle.awari_places.proofs.plies.plies_of.Goals as goal
 
 pub loop-index-init : goal.loop-index-init
@@ -37,3 +38,13 @@ loop-index-preserved g c =
           rw (c.in_ok-push.ensures.items) (told-more images c.args.board c.args.moves.now _ _ _ _ _ _ inside is told ply (c.in_ok-ply.ensures.played _ _ told.shows) c.play_ply.ensures.board legal);
       same = unchanged_then _ _ _ i.same c.play_ply.ensures.same;
     }
+
+pub returns-in_err-ply-clause-look : goal.returns-in_err-ply-clause-look
+returns-in_err-ply-clause-look g c =
+    err_same c.from_residual.result _ _ c.from_residual.ensures.1 (
+    look_before _ _ _ _ c.loop-index.invariant.same.stands c.in_err-ply.ensures.look)
+
+pub returns-in_err-push-clause-look : goal.returns-in_err-push-clause-look
+returns-in_err-push-clause-look g c =
+    err_same c.from_residual-in_err-push.result _ _ c.from_residual-in_err-push.ensures.1 (
+    look_memory _ _ _ _ c.play_ply.ensures.board c.loop-index.invariant.known refl)

@@ -1,5 +1,6 @@
-use Rattle.std.proofs.Common.{◌∙◌, ap}
+use Rattle.std.proofs.Common.{◌∙◌, ap, arith}
 use Rattle.awari_table.specs.declared.images.Entry.{Entry}
+use Rattle.awari_places.proofs.Refusing.{err_same, look_at}
 use Rattle.awari_places.proofs.worths.reached.Goals as goal
 
 pub returns-clause-reached : goal.returns-clause-reached
@@ -10,3 +11,8 @@ returns-clause-reached g c = λ images says.
       c.of.ensures.value ∙ ap (λ (e : Entry). e.value) is,
       rw (c.of.ensures.captured, ← is) c.of.ensures.plies,
     )
+
+pub returns-in_err-entry-clause-look : goal.returns-in_err-entry-clause-look
+returns-in_err-entry-clause-look g c =
+    err_same c.from_residual.result _ _ c.from_residual.ensures.1 (
+    look_at _ _ _ _ (omega (arith, c.in-Ok.ensures.kept, c.requires.level.known)) c.in_err-entry.ensures.fault)

@@ -8,6 +8,7 @@ use Rattle.awari_folder.proofs.States.{unchanged_then}
 use Rattle.awari_play.proofs.Worthing.{pits-of, worths-more, worths-of}
 use Rattle.awari_play.specs.MoveWorth.{pit_of}
 use Rattle.awari_places.proofs.Reading.{still_says}
+use Rattle.awari_places.proofs.Refusing.{err_same, look_before}
 use Rattle.awari_places.proofs.worths.worths_of.Goals as goal
 
 pub worth_of-requires-clause-legal : goal.worth_of-requires-clause-legal
@@ -47,3 +48,8 @@ returns-clause-worths g c = λ images says.
       ascending = subst IsStrictlyIncreasing (sym pits) c.moves-moves.ensures.ascending;
       worth = worths-of _ _ _ _ each;
     }
+
+pub returns-in_err-worth_of-clause-look : goal.returns-in_err-worth_of-clause-look
+returns-in_err-worth_of-clause-look g c =
+    err_same c.from_residual.result _ _ c.from_residual.ensures.1 (
+    look_before _ _ _ _ c.loop-pit.invariant.same.stands c.in_err-worth_of.ensures.look)
