@@ -4,8 +4,8 @@
 ghost use Rattle.std.specs.Prelude.{◌≡◌, ◌≤◌, ◌↔◌, Err, IfErr, IfOk, length};
 ghost use Rattle.awari_board.specs.BoardFault.{IsFaulty};
 ghost use Rattle.awari_board.specs.declared.text.BoardFault.{BoardFault};
-ghost use Rattle.awari_folder.specs.Contents.{Lacks, Same};
-ghost use Rattle.awari_answers.specs.Asked.{IsAsked, IsUnasked};
+ghost use Rattle.awari_folder.specs.Contents.{Lacks};
+ghost use Rattle.awari_answers.specs.Asked.{IsAsked, IsUnasked, OnlyAsks};
 ghost use Rattle.awari_answers.specs.declared.asked.NoAnswer.TheVariants as no_answer;
 
 use crate::levels::load_levels;
@@ -180,7 +180,7 @@ pub fn ask_folder<T: Threads + Sync, F: Folder>(
 ) -> Result<Asked, NoAnswer>
     ensures asked { IfOk result (λ found. IsAsked (F.state folder.old).stands text.now found.shelf found.board) }
     ensures fault { IfErr result (IsUnasked (Lacks (F.state folder.old).refusals (F.state folder.new).refusals) (F.state folder.old).stands text.now) }
-    ensures same { Same (F.state folder.old).stands (F.state folder.new).stands }
+    ensures asks { OnlyAsks result (F.state folder.old) (F.state folder.new) }
     ensures board { (fault : BoardFault) → (result ≡ Err (no_answer.Board fault)) ↔ IsFaulty text.now fault }
 {
     // Ghost: a text has at most one fault.

@@ -2,7 +2,8 @@
 
 ghost use Rattle.std.specs.Prelude.{IfErr, IfOk, min};
 ghost use Rattle.awari_answers.specs.Asked.{AreLevelsTo, IsUnloaded};
-ghost use Rattle.awari_folder.specs.Contents.{Lacks, Same};
+ghost use Rattle.awari_folder.specs.Contents.{Lacks};
+ghost use Rattle.awari_folder.specs.State.{OnlyReads};
 ghost use Rattle.awari_table.specs.declared.TheConstants.{HIGHEST_LEVEL};
 
 use awari_folder::{Folder, FolderFault, Together, load};
@@ -20,7 +21,7 @@ pub fn load_levels<T: Threads + Sync, F: Folder>(
 ) -> Result<Shelf, FolderFault>
     ensures levels { IfOk result (AreLevelsTo (min most HIGHEST_LEVEL) (F.state folder.old).stands) }
     ensures fault { IfErr result (IsUnloaded (Lacks (F.state folder.old).refusals (F.state folder.new).refusals) (min most HIGHEST_LEVEL) (F.state folder.old).stands) }
-    ensures same { Same (F.state folder.old).stands (F.state folder.new).stands }
+    ensures reads { OnlyReads result (F.state folder.old) (F.state folder.new) }
 {
     let most = most.min(HIGHEST_LEVEL);
     let shelf = load(&Together(rt), alloc, folder, most)?.shelf;

@@ -1,7 +1,10 @@
 //! A folder that is loaded while a stream is told which levels are right.
 
-ghost use Rattle.std.specs.Prelude.{IfOk};
-ghost use Rattle.awari_folder.specs.Contents.{IsStoredIn, Same};
+ghost use Rattle.std.specs.Prelude.{IfErr, IfOk};
+ghost use Rattle.awari_answers.specs.Asked.{IsUnloaded};
+ghost use Rattle.awari_folder.specs.Contents.{IsStoredIn, Lacks};
+ghost use Rattle.awari_folder.specs.State.{OnlyReads};
+ghost use Rattle.awari_table.specs.declared.TheConstants.{HIGHEST_LEVEL};
 
 use crate::printing::print;
 use awari_file::{FileFault, Unsealed};
@@ -23,7 +26,8 @@ pub fn load_watched<T: Threads + Sync, F: Folder, E: Write>(
     errors: &mut E,
 ) -> Result<Stored, FolderFault>
     ensures stored { IfOk result (λ stored. IsStoredIn (F.state folder.old).stands stored.shelf stored.digest) }
-    ensures same { Same (F.state folder.old).stands (F.state folder.new).stands }
+    ensures fault { IfErr result (IsUnloaded (Lacks (F.state folder.old).refusals (F.state folder.new).refusals) HIGHEST_LEVEL (F.state folder.old).stands) }
+    ensures reads { OnlyReads result (F.state folder.old) (F.state folder.new) }
 {
     let verifier = Watching::new(Together(rt), errors, tells);
     match load(&verifier, alloc, folder, HIGHEST_LEVEL) {

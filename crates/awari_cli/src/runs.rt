@@ -93,6 +93,7 @@ fn run_understood<
         × (result ≡ 0 → PrintsFor H.keeps request (H.holds host.old) (H.holds host.new) (R.remaining streams.old.input)
         (W.contents streams.old.output) (W.contents streams.new.output)) }
     ensures nothing { result ≡ 2 → Keeps (W.contents streams.old.output) (W.contents streams.new.output) × AllStay H.keeps (H.holds host.old) (H.holds host.new) }
+    ensures unasked { result ≡ 2 → IsAsked (subcommand_rows_of matches.now) None }
 {
     match request_of(matches) {
         Some(request) => run_request(rt, alloc, host, request, streams),

@@ -1,10 +1,10 @@
 //! Commands that write into folders of the host: `build` and `migrate`.
 
-ghost use Rattle.std.specs.Prelude.{◌≡◌, ◌≢◌, ◌≤◌, ℕ, List, Some};
-ghost use Rattle.awari_cli.specs.Building.{PrintsAllLevels, PrintsLevels};
+ghost use Rattle.std.specs.Prelude.{◌≡◌, ◌≢◌, ◌≤◌, ℕ, List, Option, Some};
+ghost use Rattle.awari_cli.specs.Building.{KeepsLevels, PrintsAllLevels, PrintsLevels};
 ghost use Rattle.awari_cli.specs.Done.{IsFolder, LeavesFolders, PrintsBrought, PrintsBuild, PrintsBuilt};
 ghost use Rattle.awari_host.specs.Hosts.{AllStay, OthersStay};
-ghost use Rattle.awari_folder.specs.Contents.{Same};
+ghost use Rattle.awari_folder.specs.Contents.{AreNames, Same};
 ghost use Rattle.awari_folder.specs.Migration.{KeepsFiles};
 
 use crate::building::{Builder, build_up_in, run_build};
@@ -140,6 +140,8 @@ fn run_build_of<T: Threads + Clock + Wait + Sync, F: Folder, R: Read, W: Replies
 ) -> u8
     ensures status { result ≤ 1 }
     ensures kept { KeepsFiles (F.state folder.old).stands (F.state folder.new).stands }
+    ensures keeps { (names : ℕ → Option (List ℕ)) → AreNames (F.state folder.old).stands names
+        → KeepsLevels build.entry.query.top names (F.state folder.old).stands (F.state folder.new).stands (F.state folder.old).may_leave (F.state folder.new).may_leave }
     ensures built { result ≡ 0 → PrintsLevels build.entry.query.top (F.state folder.old).stands (F.state folder.new).stands (W.contents streams.old.output) (W.contents streams.new.output) }
 {
     let mut stored = match load_watched(

@@ -1,8 +1,8 @@
 //! The levels in a folder, up to one that has to be there.
 
 ghost use Rattle.std.specs.Prelude.{◌<◌, ◌≤◌, ◌+◌, IfErr, IfOk, min};
-ghost use Rattle.awari_folder.specs.Contents.{Lacks, Same};
-ghost use Rattle.awari_answers.specs.Asked.{IsUnloaded};
+ghost use Rattle.awari_folder.specs.Contents.{Lacks};
+ghost use Rattle.awari_answers.specs.Asked.{IsUnloaded, OnlyAsks};
 ghost use Rattle.awari_facts.specs.Loads.{AreOpenedTo, CountsLoaded, CountsOpened, HasLevel, IsNoFolder, IsNoLevel, IsUnopened};
 ghost use Rattle.awari_table.specs.declared.TheConstants.{HIGHEST_LEVEL};
 
@@ -23,7 +23,7 @@ pub fn load_to<T: Threads + Sync, F: Folder>(
 ) -> Result<Shelf, NoAnswer>
     ensures levels { IfOk result (HasLevel level (F.state folder.old).stands) }
     ensures fault { IfErr result (IsNoLevel (IsUnloaded (Lacks (F.state folder.old).refusals (F.state folder.new).refusals) (min level HIGHEST_LEVEL) (F.state folder.old).stands) (CountsLoaded level (F.state folder.old).stands) level) }
-    ensures same { Same (F.state folder.old).stands (F.state folder.new).stands }
+    ensures asks { OnlyAsks result (F.state folder.old) (F.state folder.new) }
 {
     let shelf = load_levels(rt, alloc, folder, level)?;
     let levels = shelf.levels();
@@ -41,7 +41,7 @@ pub fn open_to<F: Folder>(folder: &mut F, level: u8) -> Result<Opened, NoAnswer>
     ensures known { IfOk result (λ opened. level < opened.levels) }
     ensures fault { IfErr result (IsNoLevel (IsUnopened (min level HIGHEST_LEVEL) (F.state folder.old).stands) (CountsOpened level (F.state folder.old).stands) level) }
     ensures few { IfOk result (λ opened. opened.levels ≤ HIGHEST_LEVEL + 1) }
-    ensures same { Same (F.state folder.old).stands (F.state folder.new).stands }
+    ensures asks { OnlyAsks result (F.state folder.old) (F.state folder.new) }
 {
     let opened = open_levels(folder, level.min(HIGHEST_LEVEL))?;
     let levels = opened.levels;
@@ -57,7 +57,7 @@ pub fn open_all<F: Folder>(folder: &mut F) -> Result<Opened, NoAnswer>
     ensures framed { IfOk result (AreOpenedTo HIGHEST_LEVEL (F.state folder.old).stands) }
     ensures fault { IfErr result (IsNoFolder (IsUnopened HIGHEST_LEVEL (F.state folder.old).stands)) }
     ensures few { IfOk result (λ opened. opened.levels ≤ HIGHEST_LEVEL + 1) }
-    ensures same { Same (F.state folder.old).stands (F.state folder.new).stands }
+    ensures asks { OnlyAsks result (F.state folder.old) (F.state folder.new) }
 {
     let opened = open_levels(folder, HIGHEST_LEVEL)?;
     Ok(opened)
