@@ -1,5 +1,5 @@
-/* edges FOLDER ROOM: what the library answers at the edges of what it takes. FOLDER has levels 0 to 2 at least,
- * and ROOM is an empty folder. It prints each line that is not so. */
+/* edges FOLDER ROOM: what the library answers of two boards of one stone, and at the edges of what it takes.
+ * FOLDER has levels 0 to 2 at least, and ROOM is an empty folder. It prints each line that is not so. */
 #define _POSIX_C_SOURCE 200809L
 #include "awari.h"
 #include <stdio.h>
@@ -13,6 +13,8 @@ static int wrong = 0;
 
 static awari_files files;
 static const uint8_t none[12] = {0}, one[12] = {1, 0, 0, 0, 0, 0, 0, 0, 0, 0, 0, 0};
+/* its stone goes over, and the mover loses it */
+static const uint8_t last[12] = {0, 0, 0, 0, 0, 1, 0, 0, 0, 0, 0, 0};
 static const uint8_t stones_25[12] = {25}, stones_48[12] = {48}, stones_49[12] = {49};
 
 static int is_closed(const awari_handle *handle) {
@@ -51,6 +53,47 @@ static void try_boards(void) {
     EXPECT(awari_play(stones_49, 0, after, &captures) == AWARI_TOO_MANY && captures == 9);
     EXPECT(awari_play(one, 6, after, &captures) == AWARI_NO_PIT && awari_play(none, 0, after, &captures) == AWARI_ENDED);
     EXPECT(awari_play(stones_48, 1, after, &captures) == AWARI_EMPTY_PIT && captures == 9);
+}
+
+static int is_entry(awari_entry entry, int value, int plan, uint32_t distance) {
+    return entry.value == value && entry.plan == plan && entry.distance == distance;
+}
+
+/* What there is to say of `last`, whose one move captures nothing. */
+static int are_last_moves(const awari_move moves[6]) {
+    for (int pit = 0; pit < 5; pit++)
+        if (moves[pit].legal || moves[pit].captures || moves[pit].value || moves[pit].distance) return 0;
+    return moves[5].legal && moves[5].captures == 0 && moves[5].value == -1 && moves[5].distance == 1;
+}
+
+/* Two boards, by each call. */
+static void try_told(const char *folder) {
+    awari_handle handle = AWARI_CLOSED;
+    awari_entry entry, entries[3] = {{9, 9, 9}, {9, 9, 9}, {9, 9, 9}};
+    awari_move moves[6];
+    int8_t value = 9;
+    uint8_t pits[12], after[12], captures = 9, level = 9, line[3] = {9, 9, 9}, boards[3][12];
+    uint32_t rank = 9;
+    size_t told = 9;
+    EXPECT(awari_parse("0,0,0,0,0,1/0,0,0,0,0,0", 23, pits) == AWARI_OK && !memcmp(pits, last, 12));
+    EXPECT(awari_rank(last, &level, &rank) == AWARI_OK && level == 1 && rank == 6);
+    EXPECT(awari_board(1, 11, pits) == AWARI_OK && !memcmp(pits, one, 12) && awari_size(1) == 12);
+    EXPECT(awari_legal(last) == 32 && awari_legal(one) == 0);
+    EXPECT(awari_play(last, 5, after, &captures) == AWARI_OK && !memcmp(after, one, 12) && captures == 0);
+    EXPECT(awari_play(last, 0, after, &captures) == AWARI_EMPTY_PIT);
+    EXPECT(awari_open(folder, 1, &handle, NULL) == AWARI_OK);
+    EXPECT(awari_probe(&handle, last, &entry) == AWARI_OK && is_entry(entry, -1, 5, 1));
+    EXPECT(awari_probe_value(&handle, last, &value) == AWARI_OK && value == -1);
+    EXPECT(awari_probe_moves(&handle, last, moves) == AWARI_OK && are_last_moves(moves));
+    EXPECT(awari_line(&handle, last, line, 3, &told) == AWARI_OK && told == 1 && line[0] == 5 && line[1] == 9);
+    memcpy(boards[0], last, 12), memcpy(boards[1], one, 12), memcpy(boards[2], last, 12);
+    EXPECT(awari_probe_many(&handle, boards[0], 3, entries, 2, &told) == AWARI_OK && told == 2);
+    EXPECT(is_entry(entries[0], -1, 5, 1) && is_entry(entries[1], 1, AWARI_NO_PLAN, 0) && entries[2].plan == 9);
+    awari_close(&handle);
+    EXPECT(awari_probe(&handle, last, &entry) == AWARI_NOT_YET);
+    EXPECT(awari_probe_file(files.level[1].bytes, files.level[1].len, last, &entry) == AWARI_OK && is_entry(entry, -1, 5, 1));
+    memset(moves, 9, sizeof moves);
+    EXPECT(awari_probe_moves_files(files.level, 2, last, moves) == AWARI_OK && are_last_moves(moves));
 }
 
 /* A closed handle, which stays one. */
@@ -169,6 +212,7 @@ int main(int argc, char **argv) {
     if (argc != 3 || awari_map(argv[1], 24, &files, NULL) || files.count < 3) return 2;
     try_sentences();
     try_boards();
+    try_told(argv[1]);
     try_closed();
     try_levels(argv[1]);
     try_mapped();

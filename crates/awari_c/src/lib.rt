@@ -16,8 +16,6 @@ mod files;
 mod handles;
 mod many;
 mod storing;
-#[cfg(test)]
-mod tests;
 mod texts;
 
 pub use awari_plain::{PlainEntry, PlainFault, PlainMove};
