@@ -1,15 +1,15 @@
 //! The sentence that is said to a person for each number that is answered. Commands tell it beside a
 //! refusal, and the library for C lends it. No call takes memory.
 //!
-//! The sentences that C is lent for two numbers, in `crates/awari_c/src/tests.rt`:
+//! C is lent each with its zero byte, and `tests/library/edges.c` looks at them all.
 //!
-//!     fn answers_have_sentences(rt: HostRuntime) {
-//!         let mut text: &'static [u8] = b"";
-//!         awari_text_of(3, &mut text);
-//!         assert_eq!(rt; text, b"A board has at most 48 stones\0".as_slice());
-//!         awari_text_of(255, &mut text);
-//!         assert_eq!(rt; text, b"No answer has this number\0".as_slice());
-//!         assert_eq!(rt; awari_version(), 100);
+//! The same without that byte, in `crates/awari_texts/src/lib.rt`:
+//!
+//!     pub fn sentence(answer: u8) -> &'static [u8]
+//!         ensures { result.now ≡ sentence answer }
+//!     {
+//!         let ended = ended_sentence(answer);
+//!         &ended[..ended.len() - 1]
 //!     }
 #![tactic(auto)]
 
