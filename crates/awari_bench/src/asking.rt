@@ -84,7 +84,7 @@ fn print_each(
 /// Builds the levels up to that of the boards, and publishes each.
 fn publish_levels<R: Wait + Drop>(alloc: Global, publisher: &mut Publisher<R>) -> io::Result<()> {
     for _level in 0..=STONES {
-        let Ok(level) = build_alone(alloc, publisher.pages.book()) else {
+        let Ok(level) = build_alone(alloc, publisher.book()) else {
             return Ok(());
         };
         let _ = publisher.publish(Arc::new(alloc, level)?);
@@ -177,10 +177,10 @@ pub(crate) fn asking<R: Threads + Wait + Sync + Send + Clone + Drop + Print + Cl
         return Ok(());
     };
     let start = Instant::now(rt)?;
-    let counted = entries_of(publisher.pages.book(), boards.as_slice(), rounds);
+    let counted = entries_of(publisher.book(), boards.as_slice(), rounds);
     print_each(rt, "entry", start, counted)?;
     ask_all(rt, alloc, readers, &boards, rounds)?;
-    let shelf = publisher.pages.book().share()?;
+    let shelf = publisher.book().share()?;
     publisher.close();
     let Some((publisher, readers)) = open_desk(rt.clone()?, alloc)? else {
         return Ok(());

@@ -41,23 +41,28 @@ by_reader = record { seen = length; entry = IsAnswer; moves = IsWeighing; line =
 abbrev pub book_of : Pages → List Image
 book_of p = p.writer.desk.shown.value.0
 
+-- what was to be published next, and could not be shared: nothing, or one book
+abbrev pub pending_of : Pages → List (List Image)
+pending_of p = drop p.writer.behind p.writer.log.items
+
 -- the sharing of a level was refused within a publication, which is left pending
 abbrev pub IsStuck : Pages → Type 0
-IsStuck p = 0 < length (drop p.writer.behind p.writer.log.items)
+IsStuck p = 0 < length (pending_of p)
 
 -- the level is consistent over the book, if it is its next
 abbrev pub CanPublish : Image → Pages → Type 0
 CanPublish level pages = level.level ≡ length (book_of pages) → Consistent (book_of pages) level
 
 -- What a publication does. The level stands on top of the book, or the book is as it was. It is refused as 71 if the level is not the
--- next, and only then, and never as 72. A book that is stuck stays so: it takes no level, and its next one is refused as 73. No
--- refusal as 71 makes a book stuck.
+-- next, and only then, and never as 72. A book that is stuck stays so: it takes no level, and its next one is refused as 73. A refusal
+-- leaves nothing else pending than the book with the level, as 73, if that book could not be shared.
 pub record Publishes {X : Type 0} (level : Image) (result : Result X DeskFault) (old new : Pages) : Type 0 where
   pub published : OnOk result (book_of new ≡ book_of old ++ level ∷ [])
   pub kept : OnErr result (book_of new ≡ book_of old)
   pub not_next : (result ≡ Err NotNext) ↔ (level.level ≢ length (book_of old))
   pub other : result ≢ Err Readers
   pub free : OnOk result (IsStuck new → ⊥)
-  pub stuck : IsStuck old → IsStuck new
-  pub clean : result ≡ Err NotNext → IsStuck new → IsStuck old
+  pub stuck : IsStuck old → pending_of new ≡ pending_of old
+  pub clean : result ≡ Err NotNext → pending_of new ≡ pending_of old
+  pub unshared : (IsStuck old → ⊥) → IsStuck new → pending_of new ≡ (book_of old ++ level ∷ []) ∷ []
   pub refused : IsStuck old → level.level ≡ length (book_of old) → result ≡ Err Memory

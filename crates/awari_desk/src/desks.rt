@@ -9,15 +9,18 @@ use crate::faults::DeskFault;
 use crate::pages::{Pages, new_readers};
 use crate::publishers::Publisher;
 use crate::readers::Reader;
-use awari_table::Shelf;
+use awari_table::{HIGHEST_LEVEL, Shelf};
 use std::alloc::Global;
 use std::sync::Wait;
 
 /// The most readers that a desk may have.
 pub const MOST_READERS: u8 = 8;
 
+/// The books that a desk can have: with no level, and with each highest level.
+const BOOKS: usize = HIGHEST_LEVEL as usize + 2;
+
 /// The publisher of a book that has no level yet, and `readers` readers of it, which have seen
-/// nothing. There are as many places again for what the publisher tells. Refused as 72 `Readers` if
+/// nothing. What the publisher tells takes places of its own, one for each book. Refused as 72 `Readers` if
 /// there are not 1 to 8 readers, else as 73 `Memory` if memory runs out.
 pub fn desk<R: Wait + Drop>(
     rt: R,
@@ -33,7 +36,7 @@ pub fn desk<R: Wait + Drop>(
     if readers == 0 || readers > MOST_READERS {
         return Err(DeskFault::Readers);
     }
-    let places = 2 * usize::from(readers);
+    let places = usize::from(readers) + BOOKS;
     let first = Book(Shelf::empty());
     let second = Book(Shelf::empty());
     let writer = BookWriter::new(alloc, first, second, places)?;

@@ -12,28 +12,35 @@ use core::mem::replace_with;
 use std::alloc::{AllocError, Global};
 use std::sync::{Arc, Wait};
 
-/// The book that a publisher publishes. It is not `Drop`, and is given up with its publisher.
+/// The book that a publisher publishes, as contracts see it. It is not `Drop`, and is given up with its
+/// publisher.
 pub struct Pages {
     pub(crate) writer: BookWriter,
     ghost known: { view writer.desk.place ≡ writer.desk.shown.value.0 },
 }
 
 impl Pages {
-    ghost use Rattle.std.specs.Prelude.{◌≡◌, ◌↔◌, IfOk, IfErr};
+    ghost use Rattle.std.specs.Prelude.{◌≡◌, ◌↔◌, IfOk, IfErr, IsTrue};
     ghost use Rattle.std.specs.Arc.{arc_value};
     ghost use Rattle.awari_desk.specs.Desks.{book_of, CanPublish, IsStuck, Publishes};
     ghost use Rattle.awari_desk.specs.declared.faults.DeskFault.TheVariants.{Readers};
 
-    /// What readers see now. It never waits, and takes no memory.
-    pub fn book(&self) -> &Shelf
+    /// As `Publisher::book`.
+    pub(crate) fn book(&self) -> &Shelf
         ensures { result.now ≡ book_of self.now }
     {
         &self.writer.published().0
     }
 
-    /// Tells of the whole book, for a reader to learn. Refused as 72 `Readers` if no place is free.
-    /// It never waits, and takes no memory.
-    pub fn tell(&mut self) -> Result<Told, DeskFault>
+    /// As `Publisher::is_stuck`.
+    pub(crate) fn is_stuck(&self) -> bool
+        ensures { IsTrue result ↔ IsStuck self.now }
+    {
+        self.writer.has_pending_operations()
+    }
+
+    /// As `Publisher::tell`.
+    pub(crate) fn tell(&mut self) -> Result<Told, DeskFault>
         ensures told { IfOk result (λ told. told ≡ book_of self.old) }
         ensures readers { IfErr result (λ fault. fault ≡ Readers) }
         ensures book { book_of self.new ≡ book_of self.old }
