@@ -60,5 +60,5 @@ no_answer_text (Line fault) = line_fault_text fault
 no_answer_text Memory = codes "84 Memory"
 no_answer_text (NoRank boards) = codes "93 NoRank boards " ++ decimal boards
 no_answer_text Overflow = codes "94 Overflow"
-no_answer_text Span = codes "95 Span"
-no_answer_text Column = codes "96 Column"
+no_answer_text (Span fault) = codes "95 Span"
+no_answer_text (Column fault) = codes "96 Column"

@@ -19,8 +19,8 @@ number_of (Line fault) = line_number_of fault
 number_of Memory = 84
 number_of (NoRank boards) = 93
 number_of Overflow = 94
-number_of Span = 95
-number_of Column = 96
+number_of (Span fault) = 95
+number_of (Column fault) = 96
 
 abbrev pub name_of : NoAnswer → List ℕ
 name_of (Board fault) = board_name_of fault
@@ -33,8 +33,8 @@ name_of (Line line.Memory) = codes "Memory"
 name_of Memory = codes "Memory"
 name_of (NoRank boards) = codes "NoRank"
 name_of Overflow = codes "Overflow"
-name_of Span = codes "Span"
-name_of Column = codes "Column"
+name_of (Span fault) = codes "Span"
+name_of (Column fault) = codes "Column"
 
 -- a request: a command, and its word behind a space if it has one
 abbrev pub request_text : List ℕ → List ℕ → List ℕ

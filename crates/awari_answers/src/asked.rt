@@ -12,6 +12,7 @@ use crate::levels::load_levels;
 use awari_board::{Board, BoardFault, MoveFault, one_board_fault_is_due};
 use awari_folder::{Folder, FolderFault};
 use awari_play::LineFault;
+use awari_queries::{NoColumn, NoSpan};
 use awari_table::{NotYet, Shelf};
 use std::alloc::{AllocError, Global};
 use std::fmt;
@@ -48,10 +49,10 @@ pub enum NoAnswer {
     NoRank { boards: u32 },
     /// 94: there are 2^64 plays or more.
     Overflow,
-    /// 95: what is asked for is no span of numbers.
-    Span,
-    /// 96: what is asked for is no column, or it is not said how many boards are to be sorted.
-    Column,
+    /// 95: the word of an option is no span of numbers.
+    Span { fault: NoSpan },
+    /// 96: boards are not sorted or counted by what is asked for.
+    Column { fault: NoColumn },
 }
 
 impl NoAnswer {
@@ -70,8 +71,8 @@ impl NoAnswer {
             NoAnswer::Memory => 84,
             NoAnswer::NoRank { .. } => 93,
             NoAnswer::Overflow => 94,
-            NoAnswer::Span => 95,
-            NoAnswer::Column => 96,
+            NoAnswer::Span { .. } => 95,
+            NoAnswer::Column { .. } => 96,
         }
     }
 
@@ -92,8 +93,8 @@ impl NoAnswer {
             NoAnswer::Memory => "Memory",
             NoAnswer::NoRank { .. } => "NoRank",
             NoAnswer::Overflow => "Overflow",
-            NoAnswer::Span => "Span",
-            NoAnswer::Column => "Column",
+            NoAnswer::Span { .. } => "Span",
+            NoAnswer::Column { .. } => "Column",
         }
     }
 }
@@ -138,6 +139,22 @@ impl From<LineFault> for NoAnswer {
     }
 }
 
+impl From<NoSpan> for NoAnswer {
+    ghost from_gives = { λ fault e. e ≡ no_answer.Span fault };
+
+    fn from(fault: NoSpan) -> Self {
+        NoAnswer::Span { fault }
+    }
+}
+
+impl From<NoColumn> for NoAnswer {
+    ghost from_gives = { λ fault e. e ≡ no_answer.Column fault };
+
+    fn from(fault: NoColumn) -> Self {
+        NoAnswer::Column { fault }
+    }
+}
+
 impl From<AllocError> for NoAnswer {
     ghost from_gives = { λ _ e. e ≡ no_answer.Memory };
 
@@ -163,8 +180,8 @@ impl fmt::Display for NoAnswer {
             NoAnswer::Memory => write!(f, "84 Memory"),
             NoAnswer::NoRank { boards } => write!(f, "93 NoRank boards {boards}"),
             NoAnswer::Overflow => write!(f, "94 Overflow"),
-            NoAnswer::Span => write!(f, "95 Span"),
-            NoAnswer::Column => write!(f, "96 Column"),
+            NoAnswer::Span { .. } => write!(f, "95 Span"),
+            NoAnswer::Column { .. } => write!(f, "96 Column"),
         }
     }
 }

@@ -1,14 +1,17 @@
-//! Refusals as JSON.
+//! Refusals as text, as a row of CSV, and as JSON.
 
 ghost use Rattle.std.specs.Prelude.{◌≡◌, ◌++◌, take};
 ghost use Rattle.awari_answers.specs.Refusals.{request_text};
 
 use crate::asked::NoAnswer;
-use crate::printing::{print, refuse};
-use crate::remarks::{Explained, Printed, Replies};
-use arrayvec::ArrayVec;
+use crate::printing::{Refused, print};
+use crate::remarks::{Printed, Reason, Replies};
+use arrayvec::{ArrayString, ArrayVec};
 use awari_play::refusal_json;
-use std::{fmt, str};
+use awari_queries::{Form, form_of};
+use std::fmt::{self, Write as _};
+use std::io::Write;
+use std::str;
 
 /// How many bytes of a request are told with its refusal, as in the service.
 const REQUEST_ROOM: usize = 200;
@@ -27,26 +30,56 @@ pub fn refuse_as<W: Replies>(
 ) -> u8
     ensures { result ≡ 1 }
 {
-    if json {
-        return refuse_json(writer, command, word, fault);
+    refuse_in(writer, form_of(json, false), command, word, fault)
+}
+
+/// Writes a refusal of a command about a level, or about all, in this form, and gives the status 1.
+pub fn refuse_level<W: Replies>(
+    writer: &mut W,
+    form: Form,
+    command: &str,
+    level: Option<u8>,
+    fault: NoAnswer,
+) -> u8
+    ensures { result ≡ 1 }
+{
+    let mut word = ArrayString::<3>::new();
+    if let Some(level) = level {
+        // There is room for any level.
+        let _ = write!(word, "{level}");
     }
-    refuse(writer, fault)
+    refuse_in(writer, form, command, word.as_str(), fault)
+}
+
+/// Writes a refusal in this form, and gives the status 1, whether the writer took that or not. What the refusal
+/// means is told as a remark.
+fn refuse_in<W: Replies>(
+    writer: &mut W,
+    form: Form,
+    command: &str,
+    word: &str,
+    fault: NoAnswer,
+) -> u8
+    ensures { result ≡ 1 }
+{
+    match form {
+        Form::Text => print(writer, &Refused(fault)),
+        Form::Csv => print(writer, &Row(fault)),
+        Form::Json => print_json(writer, command, word, fault),
+    };
+    writer.remark(&Reason(fault));
+    1
 }
 
 /// Writes a refusal as JSON in one line, with the request, which is a command and a word. An empty word is
-/// left out. A request is cut at 200 bytes. It gives the status 1, whether the writer took that or not. What
-/// the refusal means is told as a remark.
-fn refuse_json<W: Replies>(writer: &mut W, command: &str, word: &str, fault: NoAnswer) -> u8
-    ensures { result ≡ 1 }
-{
+/// left out. A request is cut at 200 bytes. True if the writer took that.
+fn print_json<W: Write>(writer: &mut W, command: &str, word: &str, fault: NoAnswer) -> bool {
     let request = request_of(command.as_bytes(), word.as_bytes());
     let line = refusal_json(request.as_slice(), fault.number(), fault.name());
     let line = str::from_utf8(line.as_slice()).unwrap_or("");
     let members = line.strip_suffix("}\n").unwrap_or(line);
     let fields = Members(fault);
-    print(writer, &format_args!("{members}{fields}}}"));
-    writer.remark(&Explained(fault));
-    1
+    print(writer, &format_args!("{members}{fields}}}"))
 }
 
 /// A request of a command and a word, as it is told with its refusal.
@@ -69,6 +102,23 @@ fn push_cut(text: &mut ArrayVec<u8, REQUEST_ROOM>, bytes: &[u8])
     let count = bytes.len().min(text.remaining_capacity());
     // There is room for this many.
     let _ = text.try_extend_from_slice(&bytes[..count]);
+}
+
+/// A refusal as a row of CSV: its words, with commas for what stands between them.
+#[derive(Clone, Copy)]
+struct Row(NoAnswer);
+
+impl fmt::Display for Row {
+    fn fmt<W: fmt::Write>(&self, f: &mut fmt::Formatter<W>) -> fmt::Result {
+        let printed = Printed::of(&self.0);
+        f.write_str("refused")?;
+        for refusal in printed.refusals() {
+            for word in refusal.split_whitespace() {
+                write!(f, ",{word}")?;
+            }
+        }
+        Ok(())
+    }
 }
 
 /// The fields of a refusal, and the refusals inside it, as members of an object behind others. They are

@@ -1,5 +1,5 @@
 //! What the commands have in common that build nothing and change no folder: why one gives no answer, how
-//! an answer or a refusal is printed, as text or as JSON, and what the error stream is told beside it. The
+//! an answer or a refusal is printed, as text, JSON or CSV, and what the error stream is told beside it. The
 //! status of a command is 0 if it is done, and 1 if it was refused or the writer gave a fault.
 //!
 //! A level in one line, in `crates/awari_answers/src/telling.rt`:
@@ -28,7 +28,7 @@ mod watching;
 
 pub use asked::{Asked, NoAnswer, ask_folder};
 pub use hints::{refuse_folder, tell_answer};
-pub use json::refuse_as;
+pub use json::{refuse_as, refuse_level};
 pub use levels::load_levels;
 pub use printing::{Refused, print, print_bytes, print_members, refuse, status_of};
 pub use remarks::{Answers, Explained, Replies};

@@ -2,9 +2,10 @@
 
 ghost use Rattle.std.specs.Prelude.{◌≡◌};
 
+use crate::asked::NoAnswer;
 use arrayvec::ArrayString;
 use awari_table::HIGHEST_LEVEL;
-use awari_texts::sentence;
+use awari_texts::{sentence, sentence_of_limit};
 use std::fmt::{self, Display, Write as _};
 use std::io::{self, ErrorKind, Write};
 use std::str::{self, Split};
@@ -115,6 +116,21 @@ impl<T: Display> Display for Explained<T> {
     }
 }
 
+/// Why a command gives no answer, in words: of an option whose word is at fault, which one and what is wrong;
+/// else what is printed is explained.
+#[derive(Clone, Copy)]
+pub(crate) struct Reason(pub(crate) NoAnswer);
+
+impl Display for Reason {
+    fn fmt<W: fmt::Write>(&self, f: &mut fmt::Formatter<W>) -> fmt::Result {
+        match self.0 {
+            NoAnswer::Span { fault } => write!(f, "{}: {}", fault.option(), Explained(self.0)),
+            NoAnswer::Column { fault } => write!(f, "{}: {}", fault.option(), fault.sentence()),
+            fault => write!(f, "{}", Explained(fault)),
+        }
+    }
+}
+
 /// A refusal as it is printed.
 #[derive(Drop)]
 pub(crate) struct Printed(ArrayString<REFUSAL_ROOM>);
@@ -140,6 +156,9 @@ struct Sentence<'a>(&'a str);
 
 impl Display for Sentence<'_> {
     fn fmt<W: fmt::Write>(&self, f: &mut fmt::Formatter<W>) -> fmt::Result {
+        if self.0.ends_with(" rule V7") {
+            return f.write_str(sentence_of_limit());
+        }
         let text = str::from_utf8(sentence(number_of(self.0))).unwrap_or("");
         match levels_of(self.0) {
             None => write!(f, "{text}"),

@@ -163,7 +163,7 @@ abbrev pub no_spans : Spans
 no_spans = record { value = None; distance = None; plan = None; captures = None; side = None; moves = None; keep = None; trap = None }
 
 abbrev pub all : Wanted
-all = record { spans = no_spans; waits = false; ended = false; running = false; farthest = false; every = 1; random = 0; seed = 0; order = None; with_moves = false; with_keep = false; count = false; form = Text }
+all = record { spans = no_spans; waits = false; ended = false; running = false; farthest = false; every = 1; random = 0; seed = 0; order = None; most = 0; with_moves = false; with_keep = false; count = false; form = Text }
 
 all_pass : (farthest : ℕ) (images : List Image) (board : List ℕ) → passes all farthest images board ≡ true
 unfolding passes is_within fits suits is_weighed

@@ -1,5 +1,5 @@
 -- Lines of numbers of boards, one after the other.
-use Rattle.std.proofs.Common.{◌≡◌, ℕ, ◌+◌, ◌==◌, ◌<◌, Bool, true, false, cond, List, [], ◌∷◌, ◌++◌, slice_get, take, Option, refl, sym, ◌∙◌, ap, subst, arith}
+use Rattle.std.proofs.Common.{◌≡◌, ℕ, ◌+◌, ◌==◌, ◌<◌, Bool, true, false, cond, List, [], ◌∷◌, ◌++◌, slice_get, take, Option, refl, sym, ◌∙◌, ap, subst, append_assoc, arith}
 use Rattle.std.proofs.KnownBytes.{Appends-trans}
 use Rattle.std.proofs.lemmas.Bool.Decides.{nat_tests}
 use Rattle.std.proofs.lemmas.Grind.{flat_map-append}
@@ -17,7 +17,8 @@ use Rattle.awari_facts.proofs.SourceLaws.{image_of}
 use Rattle.awari_levels.specs.Numbers.{AreNumbersOf}
 use Rattle.awari_levels.specs.declared.counts.Numbers.{Numbers}
 use Rattle.awari_members.specs.Members.{share_line}
-use Rattle.awari_levels.specs.Counts.{boards_of_distance, boards_of_value, count_lines, distance_lines, shown_distance, shown_level, shown_levels, shown_told, shown_value, value_at, value_lines}
+use Rattle.awari_queries.specs.declared.boards.Form.{Form}
+use Rattle.awari_levels.specs.Counts.{boards_of_distance, boards_of_value, count_lines, distance_lines, lines_of_levels, names_of_levels, shown_distance, shown_level, shown_levels, shown_told, shown_value, told_of, top_of, value_at, value_lines}
 
 range-more : (n : ℕ) → range_with_len 0 (n + 1) ≡ range_with_len 0 n ++ n ∷ []
 range-more n = sym (map-id (range_with_len 0 (n + 1))) ∙ map-range_with_len_more (λ k. k) 0 n n (omega arith) ∙ ap (λ xs. xs ++ n ∷ []) (map-id (range_with_len 0 n))
@@ -47,24 +48,24 @@ shared-line shown count n boards before now after so_far is some line =
     go false e = refl
 
 -- all keys
-pub valued-all : (json : Bool) (entries : List Entry) (n : ℕ) (before after : Option (List ℕ)) → n ≡ 256
-    → Appends before after (flat_map (λ k. share_line (shown_value json (value_at k)) (boards_of_value entries (value_at k))) (range_with_len 0 n)) → Appends before after (value_lines json entries)
+pub valued-all : (form : Form) (entries : List Entry) (n : ℕ) (before after : Option (List ℕ)) → n ≡ 256
+    → Appends before after (flat_map (λ k. share_line (shown_value form (value_at k)) (boards_of_value entries (value_at k))) (range_with_len 0 n)) → Appends before after (value_lines form entries)
 unfolding value_lines
-valued-all json entries n before after is all =
-    subst (λ m. Appends before after (flat_map (λ k. share_line (shown_value json (value_at k)) (boards_of_value entries (value_at k))) (range_with_len 0 m))) is all
+valued-all form entries n before after is all =
+    subst (λ m. Appends before after (flat_map (λ k. share_line (shown_value form (value_at k)) (boards_of_value entries (value_at k))) (range_with_len 0 m))) is all
 
-pub distant-all : (json : Bool) (entries : List Entry) (limit n : ℕ) (before after : Option (List ℕ)) → n ≡ limit + 1
-    → Appends before after (flat_map (λ k. share_line (shown_distance json k) (boards_of_distance entries k)) (range_with_len 0 n)) → Appends before after (distance_lines json limit entries)
+pub distant-all : (form : Form) (entries : List Entry) (limit n : ℕ) (before after : Option (List ℕ)) → n ≡ limit + 1
+    → Appends before after (flat_map (λ k. share_line (shown_distance form k) (boards_of_distance entries k)) (range_with_len 0 n)) → Appends before after (distance_lines form limit entries)
 unfolding distance_lines
-distant-all json entries limit n before after is all =
-    subst (λ m. Appends before after (flat_map (λ k. share_line (shown_distance json k) (boards_of_distance entries k)) (range_with_len 0 m))) is all
+distant-all form entries limit n before after is all =
+    subst (λ m. Appends before after (flat_map (λ k. share_line (shown_distance form k) (boards_of_distance entries k)) (range_with_len 0 m))) is all
 
--- the level's line, and those of its values and distances
-pub counted-all : (json : Bool) (image : Image) (line : List ℕ) (before first second after : Option (List ℕ)) → line ≡ shown_level json image → Appends before first (line ++ 10 ∷ [])
-    → Appends first second (value_lines json image.entries) → Appends second after (distance_lines json image.limit image.entries) → Appends before after (count_lines json image)
+-- what stands above a level's values and distances, and their lines
+pub counted-all : (form : Form) (image : Image) (told : LevelLine) (before first second after : Option (List ℕ)) → told ≡ told_of image → Appends before first (top_of form told)
+    → Appends first second (value_lines form image.entries) → Appends second after (distance_lines form image.limit image.entries) → Appends before after (count_lines form image)
 unfolding count_lines
-counted-all json image line before first second after is told values distances =
-    Appends-trans before second after _ _ (Appends-trans before first second _ _ (subst (λ l. Appends before first (l ++ 10 ∷ [])) is told) values) distances
+counted-all form image told before first second after is top values distances =
+    Appends-trans before first after _ _ (subst (λ t. Appends before first (top_of form t)) is top) (Appends-trans first second after _ _ values distances)
 
 -- one part more
 pub lines-next : (f : ℕ → List ℕ) (n : ℕ) (before now after : Option (List ℕ)) → Appends before now (flat_map f (range_with_len 0 n)) → Appends now after (f n)
@@ -72,21 +73,26 @@ pub lines-next : (f : ℕ → List ℕ) (n : ℕ) (before now after : Option (Li
 lines-next f n before now after so_far next = subst (Appends before after) (sym (lines-more f n)) (Appends-trans before now after _ _ so_far next)
 
 -- what is told of a level
-pub shown_is : (json : Bool) (image : Image) (told : LevelLine) → IsToldOf image told → shown_told json told ≡ shown_level json image
-unfolding shown_level
-shown_is json image told is = rw (is.level, is.boards, is.won, is.even, is.lost, is.limit) refl
+pub told_is : (image : Image) (told : LevelLine) → IsToldOf image told → told ≡ told_of image
+told_is image told is = rw (is.level, is.boards, is.won, is.even, is.lost, is.limit) refl
 
 -- one level more
-pub shown_levels-push : (json : Bool) (images : List Image) (image : Image) (told : LevelLine) → IsToldOf image told
-    → shown_levels json (images ++ image ∷ []) ≡ shown_levels json images ++ (shown_told json told ++ 10 ∷ [])
-shown_levels-push json images image told tells =
-    flat_map-append (λ image. shown_level json image ++ 10 ∷ []) images (image ∷ [])
-    ∙ ap (λ t. shown_levels json images ++ t) (append-nil (shown_level json image ++ 10 ∷ []) ∙ ap (λ t. t ++ 10 ∷ []) (sym (shown_is json image told tells)))
+levels-push : (form : Form) (images : List Image) (image : Image) (told : LevelLine) → IsToldOf image told
+    → lines_of_levels form (images ++ image ∷ []) ≡ lines_of_levels form images ++ (shown_told form told ++ 10 ∷ [])
+unfolding shown_level
+levels-push form images image told tells =
+    flat_map-append (λ image. shown_level form image ++ 10 ∷ []) images (image ∷ [])
+    ∙ ap (λ t. lines_of_levels form images ++ t) (append-nil (shown_level form image ++ 10 ∷ []) ∙ ap (λ t. shown_told form t ++ 10 ∷ []) (sym (told_is image told tells)))
 
 -- the line of the next level
-pub level-line : (json : Bool) (images : List Image) (number : ℕ) (numbers : Numbers) (before now after : Option (List ℕ)) → IsSomeAnd (slice_get images number) (λ image. AreNumbersOf image numbers)
-    → Appends before now (shown_levels json (take number images)) → Appends now after (shown_told json numbers.told ++ 10 ∷ []) → Appends before after (shown_levels json (take (number + 1) images))
-level-line json images number numbers before now after there so_far line =
+pub level-line : (form : Form) (images : List Image) (number : ℕ) (numbers : Numbers) (before now after : Option (List ℕ)) → IsSomeAnd (slice_get images number) (λ image. AreNumbersOf image numbers)
+    → Appends before now (shown_levels form (take number images)) → Appends now after (shown_told form numbers.told ++ 10 ∷ []) → Appends before after (shown_levels form (take (number + 1) images))
+level-line form images number numbers before now after there so_far line =
     let (image, found, are) = image_of (slice_get images number) (λ image. AreNumbersOf image numbers) there in
-    let lines = ap (shown_levels json) (take-read images number image found) ∙ shown_levels-push json (take number images) image numbers.told are.told in
+    let lines = ap (λ xs. names_of_levels form ++ lines_of_levels form xs) (take-read images number image found) ∙ ap (λ t. names_of_levels form ++ t) (levels-push form (take number images) image numbers.told are.told)
+    ∙ sym (append_assoc (names_of_levels form) (lines_of_levels form (take number images)) (shown_told form numbers.told ++ 10 ∷ [])) in
     subst (Appends before after) (sym lines) (Appends-trans before now after _ _ so_far line)
+
+-- the lines of no level
+pub level-none : (form : Form) (images : List Image) (before after : Option (List ℕ)) → Appends before after (names_of_levels form) → Appends before after (shown_levels form (take 0 images))
+level-none form images before after names = subst (Appends before after) (sym (append-nil (names_of_levels form))) names

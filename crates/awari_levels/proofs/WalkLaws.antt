@@ -1,16 +1,19 @@
 -- A walk over the boards of a level, one by one.
-use Rattle.std.proofs.Common.{◌≡◌, ℕ, ◌+◌, Bool, true, false, cond, ◌&&◌, List, [], ◌∷◌, ◌++◌, length, ℤ, Option, Some, None, refl, sym, ◌∙◌, ap, subst, append-nil, arith}
-use Rattle.std.proofs.lemmas.List.{length-append}
+use Rattle.std.proofs.Common.{◌≡◌, ℕ, zero, suc, ◌+◌, ◌-◌, ◌<◌, ◌%◌, ◌==◌, Bool, true, false, cond, ◌&&◌, List, [], ◌∷◌, ◌++◌, length, take, drop, ℤ, Option, Some, None, refl, sym, ◌∙◌, ap, subst, append-nil, arith}
+use Rattle.std.proofs.lemmas.List.{length-append, take-append-drop, take-append-le, take_all}
+use Rattle.std.proofs.lemmas.List.Elements.{filter-append}
 use Rattle.core.specs.Option.{is_some}
 use Rattle.awari_queries.proofs.Sampling.{left-push, taken-push}
-use Rattle.awari_queries.specs.Draws.{drawn_on, is_taken, taken}
+use Rattle.awari_queries.specs.Draws.{drawn, drawn_on, is_drawn, is_taken, left_after, sample, taken}
+use Rattle.awari_queries.specs.Holding.{first}
 use Rattle.awari_queries.specs.declared.draws.Draw.{Draw}
 use Rattle.awari_rank.specs.Rank.{size_of}
+use Rattle.awari_rank.specs.Tuples.{tuples}
 use Rattle.awari_table.specs.declared.images.Entry.{Entry}
 use Rattle.awari_table.specs.declared.images.Image.{Image}
 use Rattle.awari_facts.specs.Numbers.{IsAt}
 use Rattle.awari_levels.proofs.ChoiceLaws.{Weighs, chosen-all, chosen-more, chosen-none}
-use Rattle.awari_levels.specs.Listing.{due_boards, is_within, key_if, passes, sort_key, taken_boards}
+use Rattle.awari_levels.specs.Listing.{due_boards, each, farthest_of, is_within, key_if, passes, passing, sort_key, taken_boards}
 use Rattle.awari_levels.specs.Walks.{Chosen, Drawn, IsChoice, Steps, Walked}
 use Rattle.awari_levels.specs.declared.walks.Choice.{Choice}
 use Rattle.awari_levels.specs.declared.walks.Taken.{Taken}
@@ -102,3 +105,72 @@ due-passes false due now is some = cc
 
 pub none-some : {A : Type 0} (x : A) → None ≡ Some x → ⊥
 none-some x is = cc
+
+-- ---- the first ones
+
+each-append : {A : Type 0} (k before : ℕ) (xs ys : List A) → each k before (xs ++ ys) ≡ each k before xs ++ each k (before + length xs) ys
+each-append k before [] ys = let same : before ≡ before + 0 = omega arith in ap (λ n. each k n ys) same
+each-append {A} k before (x ∷ xs) ys =
+    let moved : before + 1 + length xs ≡ before + length (x ∷ xs) = omega arith in
+    go ((before + 1) % k == 0) (each-append k (before + 1) xs ys ∙ ap (λ n. each k (before + 1) xs ++ each k n ys) moved)
+  where
+    go : (b : Bool) → each k (before + 1) (xs ++ ys) ≡ each k (before + 1) xs ++ each k (before + length (x ∷ xs)) ys
+        → cond b (x ∷ each k (before + 1) (xs ++ ys)) (each k (before + 1) (xs ++ ys)) ≡ cond b (x ∷ each k (before + 1) xs) (each k (before + 1) xs) ++ each k (before + length (x ∷ xs)) ys
+    go true rest = ap (λ t. x ∷ t) rest
+    go false rest = rest
+
+left-none : {A : Type 0} (xs : List A) → left_after None xs ≡ None
+left-none [] = refl
+left-none (x ∷ xs) = left-none xs
+
+taken-append : {A : Type 0} (d : Option Draw) (xs ys : List A) → taken d (xs ++ ys) ≡ taken d xs ++ taken (left_after d xs) ys
+taken-append None xs ys = ap (λ l. xs ++ taken l ys) (sym (left-none xs))
+taken-append (Some d) [] ys = refl
+taken-append {A} (Some d) (x ∷ xs) ys = go (is_drawn d) (taken-append (Some (drawn d)) xs ys)
+  where
+    go : (b : Bool) → sample (drawn d) (xs ++ ys) ≡ sample (drawn d) xs ++ taken (left_after (Some (drawn d)) xs) ys
+        → cond b (x ∷ sample (drawn d) (xs ++ ys)) (sample (drawn d) (xs ++ ys)) ≡ cond b (x ∷ sample (drawn d) xs) (sample (drawn d) xs) ++ taken (left_after (Some (drawn d)) xs) ys
+    go true rest = ap (λ t. x ∷ t) rest
+    go false rest = rest
+
+-- others come behind those that were taken
+pub drawn-before : (wanted : Wanted) (images : List Image) (level rank passed : ℕ) (sample draw : Option Draw) (boards : List (List ℕ)) → Drawn wanted images level rank passed sample draw boards
+    → (rest : List (List ℕ)) × (boards ++ rest ≡ taken sample (due_boards wanted images level))
+drawn-before wanted images level rank passed sample draw boards so_far =
+    let front = passing wanted images level (take rank (tuples 12 level)) in
+    let back = passing wanted images level (drop rank (tuples 12 level)) in
+    let due : due_boards wanted images level ≡ so_far.due ++ each wanted.every (0 + length front) back =
+    ap (λ bs. each wanted.every 0 (passing wanted images level bs)) (sym (take-append-drop rank (tuples 12 level)))
+    ∙ ap (each wanted.every 0) (filter-append (passes wanted (farthest_of wanted images level) images) (take rank (tuples 12 level)) (drop rank (tuples 12 level)))
+    ∙ each-append wanted.every 0 front back ∙ ap (λ bs. bs ++ each wanted.every (0 + length front) back) (sym so_far.chosen.list) in (
+      taken (left_after sample so_far.due) (each wanted.every (0 + length front) back),
+      sym (ap (taken sample) due ∙ taken-append sample so_far.due (each wanted.every (0 + length front) back)
+          ∙ ap (λ bs. bs ++ taken (left_after sample so_far.due) (each wanted.every (0 + length front) back)) (sym so_far.taken)),
+    )
+
+-- how many are wanted still, where so many were taken; 0 is all
+abbrev pub IsLeft : ℕ → ℕ → ℕ → Type 0
+IsLeft zero left count = left ≡ 0
+IsLeft (suc n) left count = (0 < left) × (left + count ≡ suc n)
+
+pub left-all : (most : ℕ) → IsLeft most most 0
+left-all zero = refl
+left-all (suc n) = (omega arith, omega arith)
+
+pub left-more : (most left next : ℕ) (boards : List (List ℕ)) (board : List ℕ) → IsLeft most left (length boards) → (left ≡ 1 → ⊥) → next ≡ left - 1 → IsLeft most next (length (boards ++ board ∷ []))
+left-more zero left next boards board is more less = omega (arith, is, less)
+left-more (suc n) left next boards board is more less =
+    let many : 1 < left = grind (arith, is.0, more) in
+    (omega (arith, many, less), omega (arith, many, less, is.1, length-append boards (board ∷ [])))
+
+-- the last one that is wanted
+pub first-last : (most left : ℕ) (boards rest : List (List ℕ)) (board : List ℕ) → IsLeft most left (length boards) → left ≡ 1 → boards ++ board ∷ [] ≡ first most ((boards ++ board ∷ []) ++ rest)
+first-last zero left boards rest board is last = absurd (omega (arith, is, last))
+first-last (suc n) left boards rest board is last =
+    let many : length (boards ++ board ∷ []) ≡ suc n = omega (arith, is.1, last, length-append boards (board ∷ [])) in
+    sym (take-append-le (suc n) (boards ++ board ∷ []) rest (omega (arith, many)) ∙ take_all (suc n) (boards ++ board ∷ []) (omega (arith, many)))
+
+-- all that there are
+pub first-all : (most left : ℕ) (boards : List (List ℕ)) → IsLeft most left (length boards) → boards ≡ first most boards
+first-all zero left boards is = refl
+first-all (suc n) left boards is = sym (take_all (suc n) boards (omega (arith, is.0, is.1)))

@@ -13,10 +13,11 @@ use Rattle.awari_table.specs.declared.images.Image.{Image}
 use Rattle.awari_levels.specs.Listing.{board_lines, header_of, stem_of, wanted_boards}
 use Rattle.awari_facts.specs.Loads.{HasLevel}
 use Rattle.awari_facts.specs.Sources.{IsSaidOf}
-use Rattle.awari_queries.specs.Boards.{AreAskedFor, AsksForNoSpans, form_of}
-use Rattle.awari_queries.specs.Orders.{AsksForNoOrder, AsksForOrder}
+use Rattle.awari_queries.specs.Boards.{AreAskedFor, HasNoSpan, form_of}
+use Rattle.awari_queries.specs.Orders.{AsksForOrder, HasNoOrder}
 use Rattle.awari_queries.specs.declared.boards.BoardsQuery.{BoardsQuery}
 use Rattle.awari_queries.specs.declared.boards.Form.TheVariants.{Text}
+use Rattle.awari_queries.specs.declared.boards.Spans.{Spans}
 use Rattle.awari_levels.specs.declared.wanted.Wanted.{Wanted}
 
 -- the boards that are asked for; each 0th counts as each
@@ -31,14 +32,15 @@ pub record IsWanted (query : BoardsQuery) (wanted : Wanted) : Type 0 where
   pub seed : wanted.seed ≡ query.seed
   pub with_moves : wanted.with_moves ≡ query.with_moves
   pub with_keep : wanted.with_keep ≡ query.with_keep
-  pub order : AsksForOrder query.sort query.most wanted.order
+  pub order : AsksForOrder query.sort wanted.order
+  pub most : wanted.most ≡ query.most
   pub count : wanted.count ≡ query.count
   pub form : wanted.form ≡ form_of query.json query.csv
 
--- one of the words is no span, or there is no order as it is asked for
+-- a word is no span; or each is, and that of the order is none
 abbrev pub IsRefused : BoardsQuery → NoAnswer → Type 0
-IsRefused query Span = AsksForNoSpans query.spans
-IsRefused query Column = AsksForNoOrder query.sort query.most
+IsRefused query (Span fault) = HasNoSpan query.spans fault
+IsRefused query (Column fault) = ((spans : Spans) × AreAskedFor query.spans spans) × HasNoOrder query.sort fault
 IsRefused query other = ⊥
 
 -- how many boards of the level are wanted, or a line for each of them

@@ -6,8 +6,9 @@ use Rattle.std.specs.Ordering.{int_eq}
 use Rattle.awari_answers.specs.Asked.{AreLevelsTo}
 use Rattle.awari_answers.specs.LevelLines.{level_members}
 use Rattle.awari_answers.specs.declared.telling.LevelLine.{LevelLine}
-use Rattle.awari_members.specs.Members.{line_text, number, share_line, signed}
-use Rattle.awari_queries.specs.Boards.{form_of}
+use Rattle.awari_members.specs.Members.{Named, line_text, number, share_line, signed, text}
+use Rattle.awari_queries.specs.declared.boards.Form.{Form}
+use Rattle.awari_queries.specs.declared.boards.Form.TheVariants.{Text, Csv, Json}
 use Rattle.awari_table.specs.Images.{even_boards, lost_boards, won_boards}
 use Rattle.awari_table.specs.declared.TheConstants.{HIGHEST_LEVEL}
 use Rattle.awari_table.specs.declared.images.Entry.{Entry}
@@ -26,58 +27,83 @@ boards_of_distance entries distance = count_by (λ e. e.dist == distance) entrie
 abbrev pub value_at : ℕ → ℤ
 value_at place = pos place -ℤ pos 128
 
--- how many boards have a value, and a distance: as a line, or as JSON
-unfoldable pub shown_value : Bool → ℤ → ℕ → List ℕ
-shown_value json value boards = line_text (form_of json false) (signed (codes "value") value ∷ number (codes "boards") boards ∷ [])
+-- all members of a line in CSV, else those behind the first
+abbrev pub told_in : Form → List Named → List Named
+told_in form [] = []
+told_in Text (m ∷ members) = members
+told_in Csv (m ∷ members) = m ∷ members
+told_in Json (m ∷ members) = members
 
-unfoldable pub shown_distance : Bool → ℕ → ℕ → List ℕ
-shown_distance json distance boards = line_text (form_of json false) (number (codes "distance") distance ∷ number (codes "boards") boards ∷ [])
+-- how many boards have a value, and a distance, in CSV behind its column's name
+unfoldable pub shown_value : Form → ℤ → ℕ → List ℕ
+shown_value form value boards = line_text form (told_in form (text (codes "column") (codes "value") ∷ signed (codes "value") value ∷ number (codes "boards") boards ∷ []))
 
--- what is told of a level, likewise
-abbrev pub shown_told : Bool → LevelLine → List ℕ
-shown_told json told = line_text (form_of json false) (level_members told)
+unfoldable pub shown_distance : Form → ℕ → ℕ → List ℕ
+shown_distance form distance boards = line_text form (told_in form (text (codes "column") (codes "distance") ∷ number (codes "distance") distance ∷ number (codes "boards") boards ∷ []))
 
-unfoldable pub shown_level : Bool → Image → List ℕ
-shown_level json image = shown_told json (record {
+-- what is told of a level
+abbrev pub shown_told : Form → LevelLine → List ℕ
+shown_told form told = line_text form (level_members told)
+
+abbrev pub told_of : Image → LevelLine
+told_of image = record {
   level = image.level;
   boards = length image.entries;
   counts = record { won = won_boards image.entries; even = even_boards image.entries; lost = lost_boards image.entries };
   limit = image.limit;
-})
+}
 
-abbrev pub shown_levels : Bool → List Image → List ℕ
-shown_levels json images = flat_map (λ image. shown_level json image ++ 10 ∷ []) images
+unfoldable pub shown_level : Form → Image → List ℕ
+shown_level form image = shown_told form (told_of image)
+
+-- what stands above the lines of levels: in CSV their names
+unfoldable pub names_of_levels : Form → List ℕ
+names_of_levels Text = []
+names_of_levels Csv = codes "level,boards,won,even,lost,limit" ++ 10 ∷ []
+names_of_levels Json = []
+
+abbrev pub lines_of_levels : Form → List Image → List ℕ
+lines_of_levels form images = flat_map (λ image. shown_level form image ++ 10 ∷ []) images
+
+abbrev pub shown_levels : Form → List Image → List ℕ
+shown_levels form images = names_of_levels form ++ lines_of_levels form images
+
+-- what stands above the lines of values and distances: what is told of the level; in CSV their names
+unfoldable pub top_of : Form → LevelLine → List ℕ
+top_of Text told = shown_told Text told ++ 10 ∷ []
+top_of Csv told = codes "column,number,boards" ++ 10 ∷ []
+top_of Json told = shown_told Json told ++ 10 ∷ []
 
 -- a line for each value that a board has, ascending
-unfoldable pub value_lines : Bool → List Entry → List ℕ
-value_lines json entries = flat_map (λ place. share_line (shown_value json (value_at place)) (boards_of_value entries (value_at place))) (range_with_len 0 256)
+unfoldable pub value_lines : Form → List Entry → List ℕ
+value_lines form entries = flat_map (λ place. share_line (shown_value form (value_at place)) (boards_of_value entries (value_at place))) (range_with_len 0 256)
 
 -- a line for each distance that a board has, ascending, up to a limit
-unfoldable pub distance_lines : Bool → ℕ → List Entry → List ℕ
-distance_lines json limit entries = flat_map (λ distance. share_line (shown_distance json distance) (boards_of_distance entries distance)) (range_with_len 0 (limit + 1))
+unfoldable pub distance_lines : Form → ℕ → List Entry → List ℕ
+distance_lines form limit entries = flat_map (λ distance. share_line (shown_distance form distance) (boards_of_distance entries distance)) (range_with_len 0 (limit + 1))
 
--- the level's line, and those of its values and distances
-unfoldable pub count_lines : Bool → Image → List ℕ
-count_lines json image = shown_level json image ++ 10 ∷ [] ++ value_lines json image.entries ++ distance_lines json image.limit image.entries
+-- the lines of a level's values and distances below what stands above them
+unfoldable pub count_lines : Form → Image → List ℕ
+count_lines form image = top_of form (told_of image) ++ (value_lines form image.entries ++ distance_lines form image.limit image.entries)
 
 -- Where it is known what the writer holds, what was written is a line for each of the right levels that the folder stores, or all
--- lines of the one of this number; where it is known what the folder's names have. Each line is JSON or not.
-abbrev pub PrintsCounts : Bool → (ℕ → Option (Option (List ℕ))) → Option ℕ → Option (List ℕ) → Option (List ℕ) → Type 0
-PrintsCounts json stands None before after = (images : List Image) × AreLevelsTo HIGHEST_LEVEL stands images × Appends before after (shown_levels json images)
-PrintsCounts json stands (Some number) before after = (images : List Image) × (image : Image) × HasLevel number stands images × (slice_get images number ≡ Some image)
-    × Appends before after (count_lines json image)
+-- lines of the one of this number; where it is known what the folder's names have. Each line is of this form.
+abbrev pub PrintsCounts : Form → (ℕ → Option (Option (List ℕ))) → Option ℕ → Option (List ℕ) → Option (List ℕ) → Type 0
+PrintsCounts form stands None before after = (images : List Image) × AreLevelsTo HIGHEST_LEVEL stands images × Appends before after (shown_levels form images)
+PrintsCounts form stands (Some number) before after = (images : List Image) × (image : Image) × HasLevel number stands images × (slice_get images number ≡ Some image)
+    × Appends before after (count_lines form image)
 
 -- What was written are the lines of these levels, or all lines of the one of this number.
-abbrev pub AppendsCounts : Bool → Option ℕ → List Image → Option (List ℕ) → Option (List ℕ) → Type 0
-AppendsCounts json None images before after = Appends before after (shown_levels json images)
-AppendsCounts json (Some number) images before after = IsSomeAnd (slice_get images number) (λ image. Appends before after (count_lines json image))
+abbrev pub AppendsCounts : Form → Option ℕ → List Image → Option (List ℕ) → Option (List ℕ) → Type 0
+AppendsCounts form None images before after = Appends before after (shown_levels form images)
+AppendsCounts form (Some number) images before after = IsSomeAnd (slice_get images number) (λ image. Appends before after (count_lines form image))
 
 -- The same of what the files say, whether that is right or not; where it is known what the folder's names have.
-abbrev pub PrintsCountsSaid : Bool → (ℕ → Option (Option (List ℕ))) → Option ℕ → Option (List ℕ) → Option (List ℕ) → Type 0
-PrintsCountsSaid json stands None before after = AreSaid HIGHEST_LEVEL stands (λ images. AppendsCounts json None images before after)
-PrintsCountsSaid json stands (Some number) before after = IsSaidOf number stands (λ images. AppendsCounts json (Some number) images before after)
+abbrev pub PrintsCountsSaid : Form → (ℕ → Option (Option (List ℕ))) → Option ℕ → Option (List ℕ) → Option (List ℕ) → Type 0
+PrintsCountsSaid form stands None before after = AreSaid HIGHEST_LEVEL stands (λ images. AppendsCounts form None images before after)
+PrintsCountsSaid form stands (Some number) before after = IsSaidOf number stands (λ images. AppendsCounts form (Some number) images before after)
 
 -- The one or the other.
-abbrev pub PrintsCountsBy : Bool → Bool → (ℕ → Option (Option (List ℕ))) → Option ℕ → Option (List ℕ) → Option (List ℕ) → Type 0
+abbrev pub PrintsCountsBy : Bool → Form → (ℕ → Option (Option (List ℕ))) → Option ℕ → Option (List ℕ) → Option (List ℕ) → Type 0
 PrintsCountsBy false = PrintsCounts
 PrintsCountsBy true = PrintsCountsSaid

@@ -9,7 +9,7 @@ use Rattle.awari_facts.specs.Facts.{captures_by, gains_in, keeping_moves, greedi
 use Rattle.awari_facts.specs.Numbers.{number_in}
 use Rattle.awari_facts.specs.declared.looks.Gained.{Gained}
 use Rattle.awari_queries.specs.Draws.{draw_of, taken}
-use Rattle.awari_queries.specs.Holding.{first_by}
+use Rattle.awari_queries.specs.Holding.{first, sorted}
 use Rattle.awari_queries.specs.Orders.{key_of}
 use Rattle.awari_queries.specs.Spans.{has, is_in}
 use Rattle.awari_members.specs.Json.{commas, member}
@@ -153,11 +153,11 @@ due_boards wanted images level = each wanted.every 0 (passing wanted images leve
 unfoldable pub taken_boards : Wanted → List Image → ℕ → List (List ℕ)
 taken_boards wanted images level = taken (draw_of wanted.random wanted.seed (length (due_boards wanted images level))) (due_boards wanted images level)
 
--- all of these boards, or the first ones by a number
-abbrev pub first_of : Option Order → List Image → List (List ℕ) → List (List ℕ)
-first_of None images boards = boards
-first_of (Some order) images boards = first_by order.most (sort_key (Some order) images) boards
+-- these boards by rank, or by a number
+abbrev pub ordered : Option Order → List Image → List (List ℕ) → List (List ℕ)
+ordered None images boards = boards
+ordered (Some order) images boards = sorted (sort_key (Some order) images) boards
 
--- the boards that are wanted of a level
+-- the boards that are wanted of a level: the first ones of those
 unfoldable pub wanted_boards : Wanted → List Image → ℕ → List (List ℕ)
-wanted_boards wanted images level = first_of wanted.order images (taken_boards wanted images level)
+wanted_boards wanted images level = first wanted.most (ordered wanted.order images (taken_boards wanted images level))

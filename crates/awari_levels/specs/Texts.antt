@@ -2,9 +2,10 @@
 use Rattle.std.specs.Prelude.{◌≡◌, ℕ, List, slice_get, Option, Some, None}
 use Rattle.std.specs.Io.KnownBytes.{Appends}
 use Rattle.awari_check.specs.CheckFault.{IsShelfText}
-use Rattle.awari_folder.specs.Contents.{IsStoredIn}
-use Rattle.awari_table.specs.Shelves.{IsShelf}
+use Rattle.awari_answers.specs.Asked.{AreLevelsTo}
+use Rattle.awari_facts.specs.Loads.{HasLevel}
 use Rattle.awari_table.specs.Spelling.{block, IsImage}
+use Rattle.awari_table.specs.declared.TheConstants.{HIGHEST_LEVEL}
 use Rattle.awari_table.specs.declared.images.Image.{Image}
 
 -- What was written is the text of all these levels, which is what `check` says yes to; or that of the one of this number, by
@@ -13,7 +14,8 @@ abbrev pub AppendsText : List Image → Option ℕ → Option (List ℕ) → Opt
 AppendsText images None before after = (bytes : List ℕ) × IsShelfText bytes images × Appends before after bytes
 AppendsText images (Some number) before after = (image : Image) × (slice_get images number ≡ Some image) × IsImage number image × Appends before after (block image)
 
--- Where it is known what the writer holds, what was written is the text of right levels, or of one of them. They are those that
--- the folder stores, where it is known what its names have.
+-- Where it is known what the writer holds, what was written is the text of all right levels that the folder stores, or of the one
+-- of this number by those up to it, where it is known what its names have.
 abbrev pub PrintsText : (ℕ → Option (Option (List ℕ))) → Option ℕ → Option (List ℕ) → Option (List ℕ) → Type 0
-PrintsText stands level before after = (images : List Image) × (digest : List ℕ) × IsShelf images × IsStoredIn stands images digest × AppendsText images level before after
+PrintsText stands None before after = (images : List Image) × AreLevelsTo HIGHEST_LEVEL stands images × AppendsText images None before after
+PrintsText stands (Some number) before after = (images : List Image) × HasLevel number stands images × AppendsText images (Some number) before after

@@ -12,7 +12,7 @@ ghost use Rattle.awari_levels.specs.Boards.{AppendsWanted, IsRefused, IsWanted, 
 use crate::listing::{count_boards, print_boards};
 use crate::walks::Asked;
 use crate::wanted::Wanted;
-use awari_answers::{NoAnswer, Replies, load_levels, print, refuse, status_of};
+use awari_answers::{NoAnswer, Replies, load_levels, print, refuse, refuse_level, status_of};
 use awari_facts::{Source, load_to, open_to};
 use awari_folder::{Folder, FolderFault};
 use awari_queries::{BoardsQuery, Form, Spans, asked_order, asked_spans, form_of};
@@ -41,24 +41,21 @@ const ALL: Wanted = Wanted {
     random: 0,
     seed: 0,
     order: None,
+    most: 0,
     with_moves: false,
     with_keep: false,
     count: false,
     form: Form::Text,
 };
 
-/// The boards that the query asks for. It is refused as 95 if what it asks for is no span, and as 96 if it is
-/// no order.
+/// The boards that the query asks for. It is refused as 95 if a word is no span, and then as 96 if the word for
+/// the order is none.
 pub fn wanted_of(query: &BoardsQuery<'_>) -> Result<Wanted, NoAnswer>
     ensures wanted { IfOk result (IsWanted query.now) }
     ensures none { IfErr result (IsRefused query.now) }
 {
-    let Ok(spans) = asked_spans(&query.spans) else {
-        return Err(NoAnswer::Span);
-    };
-    let Ok(order) = asked_order(query.sort, query.most) else {
-        return Err(NoAnswer::Column);
-    };
+    let spans = asked_spans(&query.spans)?;
+    let order = asked_order(query.sort)?;
     Ok(Wanted {
         spans,
         waits: query.waits,
@@ -69,6 +66,7 @@ pub fn wanted_of(query: &BoardsQuery<'_>) -> Result<Wanted, NoAnswer>
         random: query.random,
         seed: query.seed,
         order,
+        most: query.most,
         with_moves: query.with_moves,
         with_keep: query.with_keep,
         count: query.count,
@@ -115,12 +113,29 @@ fn run_asked<R: Threads + Sync, F: Folder, W: Replies>(
 {
     match print_wanted(rt, alloc, folder, asked, writer) {
         Ok(written) => status_of(written),
-        Err(fault) => refuse(writer, fault),
+        Err(fault) => {
+            let form = asked.wanted.form;
+            refuse_level(
+                writer,
+                form,
+                "boards",
+                Some(asked.level),
+                NoAnswer::Folder { fault },
+            )
+        }
     }
 }
 
+/// Prints the refusal of a query, and gives the status 1.
+fn refuse_boards<W: Replies>(writer: &mut W, query: &BoardsQuery<'_>, fault: NoAnswer) -> u8
+    ensures { result ≡ 1 }
+{
+    let form = form_of(query.json, query.csv);
+    refuse_level(writer, form, "boards", Some(query.level), fault)
+}
+
 /// Prints the boards of a level that the query asks for, by rank or sorted, or how many there are, or the
-/// refusal. It takes memory for the levels, for boards that threads look at, and for those that are sorted. If
+/// refusal, in the form of the lines. It takes memory for the levels, for boards that threads look at, and for those that are sorted. If
 /// it asks for files that nobody verified, it takes none for levels.
 pub fn run_boards<T: Threads + Sync, F: Folder, W: Replies>(
     rt: &T,
@@ -135,12 +150,12 @@ pub fn run_boards<T: Threads + Sync, F: Folder, W: Replies>(
 {
     let wanted = match wanted_of(query) {
         Ok(wanted) => wanted,
-        Err(fault) => return refuse(writer, fault),
+        Err(fault) => return refuse_boards(writer, query, fault),
     };
     if query.unverified {
         let opened = match open_to(folder, query.level) {
             Ok(opened) => opened,
-            Err(fault) => return refuse(writer, fault),
+            Err(fault) => return refuse_boards(writer, query, fault),
         };
         let asked = Asked {
             source: Source::Files(opened.levels),
@@ -151,7 +166,7 @@ pub fn run_boards<T: Threads + Sync, F: Folder, W: Replies>(
     }
     let shelf = match load_to(rt, alloc, folder, query.level) {
         Ok(shelf) => shelf,
-        Err(fault) => return refuse(writer, fault),
+        Err(fault) => return refuse_boards(writer, query, fault),
     };
     let asked = Asked {
         source: Source::Shelf(&shelf),

@@ -10,22 +10,21 @@ ghost use Rattle.awari_table.specs.declared.TheConstants.{HIGHEST_LEVEL};
 ghost use Rattle.awari_table.specs.declared.images.Entry.{Entry as AnEntry};
 ghost use Rattle.awari_table.specs.declared.images.Image.{Image};
 ghost use Rattle.awari_levels.specs.Counts.{AppendsCounts, PrintsCountsBy, PrintsCountsSaid, count_lines, distance_lines, shown_levels, value_lines};
+ghost use Rattle.awari_queries.specs.Boards.{form_of};
 ghost use Rattle.awari_levels.specs.Numbers.{AreNumbersOf, HasLevels, HasOpened};
 ghost use Rattle.awari_facts.specs.Sources.{SaysBy, levels_of};
 ghost use Rattle.awari_levels.specs.Tallies.{AreByDistance, AreByValue, IsTallyOf};
 
-use crate::shown::{print_distance, print_level, print_value};
+use crate::shown::{print_distance, print_level, print_names, print_top, print_value};
 use crate::tallies::{Tally, VALUES, tally_level, value_of};
-use arrayvec::ArrayString;
-use awari_answers::{LevelLine, NoAnswer, Replies, load_levels, refuse_as, status_of};
+use awari_answers::{LevelLine, NoAnswer, Replies, load_levels, refuse_level, status_of};
 use awari_facts::{Source, count_levels, load_to, open_all, open_to, read_limit};
 use awari_folder::{Folder, FolderFault};
 use awari_places::Opened;
-use awari_queries::CountsQuery;
+use awari_queries::{CountsQuery, Form, form_of};
 use awari_rank::size;
 use awari_table::{Counts, HIGHEST_LEVEL, Shelf};
 use std::alloc::Global;
-use std::fmt::Write as _;
 use std::io::Write;
 use std::thread::Threads;
 
@@ -38,9 +37,9 @@ struct Numbers {
 
 /// Prints a line for each value that some boards have, and says whether the writer took them. These are
 /// how many boards have each.
-fn print_values<W: Write>(counts: &[u32], json: bool, writer: &mut W) -> bool
+fn print_values<W: Write>(counts: &[u32], form: Form, writer: &mut W) -> bool
     requires { length counts.now ≡ VALUES }
-    ensures { (entries : List AnEntry) → AreByValue entries counts.now → result ≡ true → Appends (W.contents writer.old) (W.contents writer.new) (value_lines json entries) }
+    ensures { (entries : List AnEntry) → AreByValue entries counts.now → result ≡ true → Appends (W.contents writer.old) (W.contents writer.new) (value_lines form entries) }
 {
     for place in 0..VALUES {
         let boards = counts[place];
@@ -48,7 +47,7 @@ fn print_values<W: Write>(counts: &[u32], json: bool, writer: &mut W) -> bool
             continue;
         }
         let value = value_of(place);
-        if !print_value(value, boards, json, writer) {
+        if !print_value(value, boards, form, writer) {
             return false;
         }
     }
@@ -57,16 +56,16 @@ fn print_values<W: Write>(counts: &[u32], json: bool, writer: &mut W) -> bool
 
 /// Prints a line for each distance up to the limit that some boards have, and says whether the writer took
 /// them. These are how many boards have each.
-fn print_distances<W: Write>(limit: u32, counts: &[u32], json: bool, writer: &mut W) -> bool
+fn print_distances<W: Write>(limit: u32, counts: &[u32], form: Form, writer: &mut W) -> bool
     requires { length counts.now ≡ limit + 1 }
-    ensures { (entries : List AnEntry) → AreByDistance limit entries counts.now → result ≡ true → Appends (W.contents writer.old) (W.contents writer.new) (distance_lines json limit entries) }
+    ensures { (entries : List AnEntry) → AreByDistance limit entries counts.now → result ≡ true → Appends (W.contents writer.old) (W.contents writer.new) (distance_lines form limit entries) }
 {
     for place in 0..limit as usize + 1 {
         let boards = counts[place];
         if boards == 0 {
             continue;
         }
-        if !print_distance(place as u32, boards, json, writer) {
+        if !print_distance(place as u32, boards, form, writer) {
             return false;
         }
     }
@@ -113,20 +112,20 @@ fn numbers_from(level: u8, limit: u32, tally: Tally) -> Numbers
     Numbers { told, tally }
 }
 
-/// Prints the line of a level, and those of its values and distances, and says whether the writer took
+/// Prints what stands above, and the lines of a level's values and distances, and says whether the writer took
 /// them.
-fn print_numbers<W: Write>(numbers: &Numbers, json: bool, writer: &mut W) -> bool
+fn print_numbers<W: Write>(numbers: &Numbers, form: Form, writer: &mut W) -> bool
     requires { (entries : List AnEntry) × IsTallyOf numbers.now.told.limit entries numbers.now.tally }
-    ensures { (image : Image) → AreNumbersOf image numbers.now → result ≡ true → Appends (W.contents writer.old) (W.contents writer.new) (count_lines json image) }
+    ensures { (image : Image) → AreNumbersOf image numbers.now → result ≡ true → Appends (W.contents writer.old) (W.contents writer.new) (count_lines form image) }
 {
     let told = numbers.told;
-    if !print_level(told, json, writer) {
+    if !print_top(told, form, writer) {
         return false;
     }
-    if !print_values(&numbers.tally.values, json, writer) {
+    if !print_values(&numbers.tally.values, form, writer) {
         return false;
     }
-    print_distances(told.limit, numbers.tally.distances.as_slice(), json, writer)
+    print_distances(told.limit, numbers.tally.distances.as_slice(), form, writer)
 }
 
 /// Prints the line of each level, and says whether the writer took them.
@@ -134,17 +133,20 @@ fn print_levels<F: Folder, W: Write>(
     alloc: Global,
     source: Source<'_>,
     folder: &mut F,
-    json: bool,
+    form: Form,
     writer: &mut W,
 ) -> Result<bool, FolderFault>
     requires { levels_of source ≤ HIGHEST_LEVEL + 1 }
     ensures printed { (images : List Image) → SaysBy source.entry (F.state folder.old).stands images → result ≡ Ok true
-        → Appends (W.contents writer.old) (W.contents writer.new) (shown_levels json images) }
+        → Appends (W.contents writer.old) (W.contents writer.new) (shown_levels form images) }
     ensures same { Unchanged (F.state folder.old) (F.state folder.new) }
 {
+    if !print_names(form, writer) {
+        return Ok(false);
+    }
     for number in 0..count_levels(source) {
         let numbers = numbers_of(alloc, source, folder, number)?;
-        if !print_level(numbers.told, json, writer) {
+        if !print_level(numbers.told, form, writer) {
             return Ok(false);
         }
     }
@@ -163,28 +165,25 @@ fn print_counts<F: Folder, W: Write>(
     requires few { levels_of source ≤ HIGHEST_LEVEL + 1 }
     requires level { IfSome query.level (λ level. level < levels_of source) }
     ensures printed { (images : List Image) → SaysBy source.entry (F.state folder.old).stands images → result ≡ Ok true
-        → AppendsCounts query.entry.json query.entry.level images (W.contents writer.old) (W.contents writer.new) }
+        → AppendsCounts (form_of query.entry.json query.entry.csv) query.entry.level images (W.contents writer.old) (W.contents writer.new) }
     ensures same { Unchanged (F.state folder.old) (F.state folder.new) }
 {
+    let form = form_of(query.json, query.csv);
     let Some(level) = query.level else {
-        return print_levels(alloc, source, folder, query.json, writer);
+        return print_levels(alloc, source, folder, form, writer);
     };
     match numbers_of(alloc, source, folder, level) {
-        Ok(numbers) => Ok(print_numbers(&numbers, query.json, writer)),
+        Ok(numbers) => Ok(print_numbers(&numbers, form, writer)),
         Err(fault) => Err(fault),
     }
 }
 
-/// Prints the refusal, and gives the status 1.
+/// Prints the refusal, in the form of the lines, and gives the status 1.
 fn refuse_counts<W: Replies>(writer: &mut W, query: CountsQuery<'_>, fault: NoAnswer) -> u8
     ensures { result ≡ 1 }
 {
-    let mut word = ArrayString::<3>::new();
-    if let Some(level) = query.level {
-        // There is room for any level.
-        let _ = write!(word, "{level}");
-    }
-    refuse_as(writer, query.json, "counts", word.as_str(), fault)
+    let form = form_of(query.json, query.csv);
+    refuse_level(writer, form, "counts", query.level, fault)
 }
 
 /// The levels in a folder, up to the one of this number if there is one.
@@ -206,8 +205,8 @@ fn load_for<T: Threads + Sync, F: Folder>(
     }
 }
 
-/// Prints the line of each level in a folder, or the line of the one of this number with those of its
-/// values and distances, or the refusal. It takes memory for the levels, if they are to be verified, and
+/// Prints the line of each level in a folder, or the lines of the one of this number, or the refusal, all in one
+/// form. It takes memory for the levels, if they are to be verified, and
 /// four bytes for each distance.
 pub fn run_counts<T: Threads + Sync, F: Folder, W: Replies>(
     rt: &T,
@@ -218,7 +217,7 @@ pub fn run_counts<T: Threads + Sync, F: Folder, W: Replies>(
 ) -> u8
     ensures status { result ≤ 1 }
     ensures same { Same (F.state folder.old).stands (F.state folder.new).stands }
-    ensures found { result ≡ 0 → PrintsCountsBy query.entry.unverified query.entry.json (F.state folder.old).stands query.entry.level (W.contents writer.old) (W.contents writer.new) }
+    ensures found { result ≡ 0 → PrintsCountsBy query.entry.unverified (form_of query.entry.json query.entry.csv) (F.state folder.old).stands query.entry.level (W.contents writer.old) (W.contents writer.new) }
 {
     if query.unverified {
         return run_counts_said(alloc, folder, query, writer);
@@ -244,7 +243,7 @@ fn run_counts_said<F: Folder, W: Replies>(
 ) -> u8
     ensures status { result ≤ 1 }
     ensures same { Same (F.state folder.old).stands (F.state folder.new).stands }
-    ensures found { result ≡ 0 → PrintsCountsSaid query.entry.json (F.state folder.old).stands query.entry.level (W.contents writer.old) (W.contents writer.new) }
+    ensures found { result ≡ 0 → PrintsCountsSaid (form_of query.entry.json query.entry.csv) (F.state folder.old).stands query.entry.level (W.contents writer.old) (W.contents writer.new) }
 {
     let opened = match open_for(folder, query.level) {
         Ok(opened) => opened,

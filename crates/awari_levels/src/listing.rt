@@ -1,13 +1,15 @@
 //! The boards of a level that are wanted, counted or printed.
 
-ghost use Rattle.std.specs.Prelude.{◌≡◌, ◌<◌, ℕ, true, if◌then◌else◌, max, List, length, All, IfOk, None, Ok, Some};
+ghost use Rattle.std.specs.Prelude.{◌≡◌, ◌<◌, ◌-◌, ◌↔◌, ℕ, true, if◌then◌else◌, max, List, length, All, IfOk, None, Ok, Some};
 ghost use Rattle.awari_places.specs.Places.{IsLevelOf};
 ghost use Rattle.awari_facts.specs.Facts.{keeping_moves};
 ghost use Rattle.awari_facts.specs.Numbers.{IsAt};
 ghost use Rattle.awari_facts.specs.Sources.{IsThere, SaysBy, levels_of};
 ghost use Rattle.awari_folder.specs.State.{Unchanged};
 ghost use Rattle.awari_queries.specs.Draws.{taken};
+ghost use Rattle.awari_queries.specs.Holding.{first};
 ghost use Rattle.awari_queries.specs.declared.holding.Held.{Held as AHeld};
+ghost use Rattle.awari_queries.specs.declared.orders.Order.{Order as AnOrder};
 ghost use Rattle.awari_rank.specs.Rank.{size_of};
 ghost use Rattle.awari_table.specs.declared.images.Image.{Image};
 ghost use Rattle.awari_levels.specs.Listing.{AppendsLines, due_boards, farthest_of, numbers_of, taken_boards, wanted_boards};
@@ -20,7 +22,7 @@ use awari_facts::{Seen, entry_at, gains_of, legal_moves, moves_gaining, read_ent
 use awari_folder::{Folder, FolderFault};
 use awari_packed::PackedBoard;
 use awari_places::Run;
-use awari_queries::{Held, Order, draw_of, hold};
+use awari_queries::{Held, Holding, draw_of};
 use awari_rank::{size, unrank};
 use std::alloc::Global;
 use std::io::Write;
@@ -160,8 +162,18 @@ fn numbers_of<F: Folder>(
     })
 }
 
-/// Prints the boards that are taken, by rank, and says whether the writer took them. Conditions as for
-/// [`count_taken`].
+/// Counts one less of those that are still wanted, and says whether it was the last; 0 has no last one.
+fn was_last(left: &mut u32) -> bool
+    ensures left { left.new ≡ left.old - 1 }
+    ensures last { result ≡ true ↔ left.old ≡ 1 }
+{
+    let was_last = *left == 1;
+    *left = left.saturating_sub(1);
+    was_last
+}
+
+/// Prints the first ones of the boards that are taken, by rank, and says whether the writer took them. It looks
+/// at no board behind the last of them. Conditions as for [`count_taken`].
 fn print_taken<R: Threads + Sync, F: Folder, W: Write>(
     rt: &R,
     alloc: Global,
@@ -172,13 +184,14 @@ fn print_taken<R: Threads + Sync, F: Folder, W: Write>(
     requires level { IsLevelOf (levels_of choice.asked.source) choice.asked.level }
     requires every { 0 < choice.asked.wanted.now.every }
     ensures printed { (images : List Image) → SaysBy choice.entry.asked.source (F.state folder.old).stands images → IsChoice choice.entry.asked.wanted.now images choice.entry.asked.level choice.entry → result ≡ Ok true
-        → AppendsLines choice.entry.asked.wanted.now images (taken_boards choice.entry.asked.wanted.now images choice.entry.asked.level) (W.contents writer.old) (W.contents writer.new) }
+        → AppendsLines choice.entry.asked.wanted.now images (first choice.entry.asked.wanted.now.most (taken_boards choice.entry.asked.wanted.now images choice.entry.asked.level)) (W.contents writer.old) (W.contents writer.new) }
     ensures same { Unchanged (F.state folder.old) (F.state folder.new) }
 {
     let level = choice.asked.level;
     let wanted = choice.asked.wanted;
     let mut walk = new_walk(alloc, choice.asked, choice.sample)?;
     let mut batch = new_batch(wanted.form, wanted.with_moves, wanted.with_keep);
+    let mut left = wanted.most;
     for rank in 0..size(level) {
         let Some(taken) = step(rt, folder, choice, &mut walk, rank)? else {
             continue;
@@ -198,27 +211,31 @@ fn print_taken<R: Threads + Sync, F: Folder, W: Write>(
         ) {
             return Ok(false);
         }
+        if was_last(&mut left) {
+            return Ok(print_bytes(writer, batch.as_slice()));
+        }
     }
     Ok(print_bytes(writer, batch.as_slice()))
 }
 
-/// The first ones of the boards that are taken. Conditions as for [`count_taken`]. It takes memory for these.
+/// The first ones of the boards that are taken, by a number. Conditions as for [`count_taken`]. It takes memory
+/// for twice as many, or for all.
 fn hold_taken<R: Threads + Sync, F: Folder>(
     rt: &R,
     alloc: Global,
     folder: &mut F,
     choice: Choice<'_>,
-    order: Order,
 ) -> Result<Vec<Held>, FolderFault>
     requires level { IsLevelOf (levels_of choice.asked.source) choice.asked.level }
     requires every { 0 < choice.asked.wanted.now.every }
-    ensures held { (images : List Image) → SaysBy choice.entry.asked.source (F.state folder.old).stands images → IsChoice choice.entry.asked.wanted.now images choice.entry.asked.level choice.entry → Some order ≡ choice.entry.asked.wanted.now.order
+    ensures held { (images : List Image) → SaysBy choice.entry.asked.source (F.state folder.old).stands images → IsChoice choice.entry.asked.wanted.now images choice.entry.asked.level choice.entry
+        → (order : AnOrder) → choice.entry.asked.wanted.now.order ≡ Some order
         → IfOk result (λ held. AreHeld choice.entry.asked.wanted.now images choice.entry.asked.level (wanted_boards choice.entry.asked.wanted.now images choice.entry.asked.level) held.items) }
     ensures few { IfOk result (λ held. All (λ (h : AHeld). h.rank < size_of choice.entry.asked.level) held.items) }
     ensures same { Unchanged (F.state folder.old) (F.state folder.new) }
 {
     let mut walk = new_walk(alloc, choice.asked, choice.sample)?;
-    let mut held = Vec::new(alloc);
+    let mut holding = Holding::new(alloc, choice.asked.wanted.most);
     for rank in 0..size(choice.asked.level) {
         let Some(taken) = step(rt, folder, choice, &mut walk, rank)? else {
             continue;
@@ -227,12 +244,15 @@ fn hold_taken<R: Threads + Sync, F: Folder>(
             number: taken.key,
             rank,
         };
-        match hold(&mut held, order.most, one) {
+        match holding.hold(one) {
             Ok(()) => {}
             Err(_) => return Err(FolderFault::Memory),
         }
     }
-    Ok(held)
+    match holding.into_first() {
+        Ok(held) => Ok(held),
+        Err(_) => Err(FolderFault::Memory),
+    }
 }
 
 /// Prints boards that are held, and says whether the writer took them. Conditions: the source has the level,
@@ -281,8 +301,8 @@ pub(crate) fn print_boards<R: Threads + Sync, F: Folder, W: Write>(
     let choice = choose(rt, alloc, folder, asked)?;
     match asked.wanted.order {
         None => print_taken(rt, alloc, folder, choice, writer),
-        Some(order) => {
-            let held = hold_taken(rt, alloc, folder, choice, order)?;
+        Some(_) => {
+            let held = hold_taken(rt, alloc, folder, choice)?;
             print_held(folder, asked, held.as_slice(), writer)
         }
     }
@@ -302,8 +322,12 @@ pub(crate) fn count_boards<R: Threads + Sync, F: Folder>(
 {
     let choice = choose(rt, alloc, folder, asked)?;
     let count = count_taken(rt, alloc, folder, choice)?;
-    match asked.wanted.order {
-        None => Ok(count),
-        Some(order) => Ok(count.min(order.most)),
-    }
+    Ok(count_first(count, asked.wanted.most))
+}
+
+/// How many of so many boards are the first ones; 0 is all.
+fn count_first(count: u32, most: u32) -> u32
+    ensures { (boards : List (List ℕ)) → count ≡ length boards → result ≡ length (first most boards) }
+{
+    if most == 0 { count } else { count.min(most) }
 }

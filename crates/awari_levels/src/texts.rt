@@ -1,21 +1,21 @@
 //! The command `text`: the levels in a folder as the text of tables.
 
-ghost use Rattle.std.specs.Prelude.{◌≡◌, ◌≤◌, ◌<◌, ◌↔◌, true, IsTrue, IfSome, OnOk, length};
+ghost use Rattle.std.specs.Prelude.{◌≡◌, ◌≤◌, ◌<◌, true, IfSome, OnOk, length};
 ghost use Rattle.awari_streams.specs.Counted.{inner_of};
-ghost use Rattle.awari_table.specs.Shelves.{IsShelf};
 ghost use Rattle.awari_folder.specs.Contents.{Same};
 ghost use Rattle.awari_levels.specs.Texts.{AppendsText, PrintsText};
 
-use awari_answers::{Replies, refuse, status_of};
-use awari_folder::{Folder, Together, load};
-use awari_table::{Counted, HIGHEST_LEVEL, NotYet, Shelf, write_level_text, write_shelf_text};
+use awari_answers::{Replies, load_levels, refuse, status_of};
+use awari_facts::load_to;
+use awari_folder::Folder;
+use awari_table::{Counted, HIGHEST_LEVEL, Shelf, write_level_text, write_shelf_text};
 use core::mem::replace_with;
 use std::alloc::Global;
 use std::io::{self, Write};
 use std::thread::Threads;
 
 /// Prints the text of the levels in a folder, or of the one of this number, or the refusal. It is 59
-/// if the folder has no level of this number.
+/// if the folder has no level of this number. No file above it is read.
 pub fn run_text<T: Threads + Sync, F: Folder, W: Replies>(
     rt: &T,
     alloc: Global,
@@ -27,26 +27,15 @@ pub fn run_text<T: Threads + Sync, F: Folder, W: Replies>(
     ensures text { result ≡ 0 → PrintsText (F.state folder.old).stands level (W.contents writer.old) (W.contents writer.new) }
     ensures same { Same (F.state folder.old).stands (F.state folder.new).stands }
 {
-    let stored = match load(&Together(rt), alloc, folder, HIGHEST_LEVEL) {
-        Ok(stored) => stored,
-        Err(fault) => return refuse(writer, fault),
+    let Some(number) = level else {
+        return match load_levels(rt, alloc, folder, HIGHEST_LEVEL) {
+            Ok(shelf) => status_of(print_text(&shelf, None, writer)),
+            Err(fault) => refuse(writer, fault),
+        };
     };
-    if !has_level(&stored.shelf, level) {
-        let levels = stored.shelf.levels();
-        return refuse(writer, NotYet { levels });
-    }
-    status_of(print_text(&stored.shelf, level, writer))
-}
-
-/// Whether the shelf has the level of this number, if a number is given.
-fn has_level(shelf: &Shelf, level: Option<u8>) -> bool
-    ensures has { IsTrue result ↔ IfSome level (λ number. number < length shelf.now) }
-    ensures shelf { IsShelf shelf.now }
-{
-    let levels = shelf.levels();
-    match level {
-        None => true,
-        Some(number) => number < levels,
+    match load_to(rt, alloc, folder, number) {
+        Ok(shelf) => status_of(print_text(&shelf, Some(number), writer)),
+        Err(fault) => refuse(writer, fault),
     }
 }
 

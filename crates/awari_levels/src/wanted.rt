@@ -42,8 +42,10 @@ pub struct Wanted {
     pub random: u32,
     /// The number that decides which are drawn.
     pub seed: u32,
-    /// The first of these by a number, if not all of them by rank.
+    /// These by a number, if not by rank.
     pub order: Option<Order>,
+    /// This many of the first ones; 0 is all.
+    pub most: u32,
     /// Whether each line has the number of legal moves.
     pub with_moves: bool,
     /// Whether each line has the number of those that keep the value.

@@ -13,7 +13,7 @@ use std::fmt;
 use std::io::Write;
 
 /// Whether a folder with the levels of this shelf has just those that are wished, and no file above
-/// them. If not, `errors` is told what was found. Files above are opened, and not read. The refusals are
+/// them. If not, `errors` is told what was found. Files above are looked for, and not opened. The refusals are
 /// 82 Open, with the level, and 84 Memory.
 pub(crate) fn has_wished_levels<F: Folder, E: Write>(
     folder: &mut F,
@@ -36,7 +36,7 @@ pub(crate) fn has_wished_levels<F: Folder, E: Write>(
     // There is nowhere to say that this could not be written.
     print(
         errors,
-        &format_args!("levels 0 to {top} were wished; the folder has {found}"),
+        &format_args!("levels 0 to {top} were asked for; the folder has {found}"),
     );
     Ok(false)
 }
@@ -54,15 +54,14 @@ fn file_above<F: Folder>(folder: &mut F, top: u8) -> Result<Option<u8>, FolderFa
     Ok(None)
 }
 
-/// Whether the level has a file, which is opened and not read.
+/// Whether the level has a file, which is not opened.
 fn has_file<F: Folder>(folder: &mut F, level: u8) -> Result<bool, FolderFault>
     requires { level ≤ HIGHEST_LEVEL }
     ensures none { result ≡ Ok false → IfSome ((F.state folder.old).stands level) (λ name. name ≡ None) }
     ensures same { Same (F.state folder.old).stands (F.state folder.new).stands }
 {
-    match folder.open(level) {
-        Ok(Some(_)) => Ok(true),
-        Ok(None) => Ok(false),
+    match folder.has_file(level) {
+        Ok(has) => Ok(has),
         Err(Refusal::Refused) => Err(FolderFault::Open { level }),
         Err(Refusal::Memory) => Err(FolderFault::Memory),
     }
@@ -86,7 +85,7 @@ pub(crate) fn has_wished_digest<E: Write>(
     // There is nowhere to say that this could not be written.
     print(
         errors,
-        &format_args!("digest {digits} was wished; the folder has digest {found}"),
+        &format_args!("digest {digits} was asked for; the folder has digest {found}"),
     );
     false
 }

@@ -1,3 +1,4 @@
 pub mod Pairs
 pub mod Ranges
 pub mod Tables
+pub mod Wishes

@@ -1,6 +1,6 @@
 //! The command `counts --by`: a level's boards by two columns.
 
-ghost use Rattle.std.specs.Prelude.{◌≡◌, ◌<◌, ◌≤◌, List, IfOk, Ok, length, true};
+ghost use Rattle.std.specs.Prelude.{◌≡◌, ◌<◌, ◌≤◌, List, IfErr, IfOk, Ok, length, true};
 ghost use Rattle.std.specs.Io.KnownBytes.{Appends};
 ghost use Rattle.awari_facts.specs.Sources.{IsSaidOf, limit_of};
 ghost use Rattle.awari_folder.specs.Contents.{Same};
@@ -11,16 +11,17 @@ ghost use Rattle.awari_table.specs.declared.TheConstants.{HIGHEST_LEVEL};
 ghost use Rattle.awari_table.specs.declared.images.Image.{Image};
 ghost use Rattle.awari_pairs.specs.Pairs.{PrintsPairsBy, header_of, pair_lines, row_lines};
 ghost use Rattle.awari_pairs.specs.Tables.{AreCounted, cells_of, rows_of};
+ghost use Rattle.awari_pairs.specs.Wishes.{IsRefused, IsWish};
 
 use crate::ranges::{number_at, width_of};
 use crate::segments::count_on;
 use crate::shown::{Names, PairShare};
 use crate::tables::{Asked, count_pairs, wrong_limit};
-use awari_answers::{NoAnswer, Replies, print, refuse, status_of};
+use awari_answers::{NoAnswer, Replies, print, refuse_level, status_of};
 use awari_facts::{Source, load_to, open_to, read_limit};
 use awari_folder::{Folder, FolderFault};
 use awari_members::Line;
-use awari_queries::{CountsQuery, Form, Pair, asked_pair, form_of};
+use awari_queries::{CountsQuery, Form, NoColumn, Pair, asked_pair, form_of};
 use awari_rank::size;
 use awari_table::Shelf;
 use std::alloc::Global;
@@ -156,11 +157,37 @@ fn print_pairs_said<F: Folder, W: Write>(
     Ok(print_table(counts.as_slice(), asked, wish.form, writer))
 }
 
+/// What is printed for a query. It is refused as 96 if no level is asked for, or if the word names no two
+/// columns.
+fn wish_of(query: &CountsQuery<'_>) -> Result<Wish, NoAnswer>
+    ensures asked { IfOk result (IsWish query.now) }
+    ensures none { IfErr result (IsRefused query.now) }
+{
+    let Some(level) = query.level else {
+        return Err(NoAnswer::Column {
+            fault: NoColumn::Level,
+        });
+    };
+    let Some(by) = query.by else {
+        return Err(NoAnswer::Column {
+            fault: NoColumn::By,
+        });
+    };
+    match asked_pair(by) {
+        Ok(pair) => Ok(Wish {
+            level,
+            pair,
+            form: form_of(query.json, query.csv),
+        }),
+        Err(fault) => Err(NoAnswer::Column { fault }),
+    }
+}
+
 /// Prints how many boards of a level have each pair of numbers, by the first and then by the second. Pairs
-/// that no board has are left out. It may print a refusal: 96 if no level is asked for, or if the word names
-/// no two columns. It takes memory for four bytes a pair of numbers, and for the levels, if they are to be
-/// verified. Files that nobody verified are read board by board. For the moves that keep the value, six bytes
-/// more are read for each move.
+/// that no board has are left out. It may print a refusal, in the form of the lines: 96 if no level is asked
+/// for, or if the word names no two columns. It takes memory for four bytes a pair of numbers, and for the
+/// levels, if they are to be verified. Files that nobody verified are read board by board. For the moves that
+/// keep the value, six bytes more are read for each move.
 pub fn run_pairs<T: Threads + Sync, F: Folder, W: Replies>(
     rt: &T,
     alloc: Global,
@@ -172,34 +199,36 @@ pub fn run_pairs<T: Threads + Sync, F: Folder, W: Replies>(
     ensures same { Same (F.state folder.old).stands (F.state folder.new).stands }
     ensures found { result ≡ 0 → PrintsPairsBy query.now.unverified (F.state folder.old).stands query.now (W.contents writer.old) (W.contents writer.new) }
 {
-    let Some(level) = query.level else {
-        return refuse(writer, NoAnswer::Column);
+    let wish = match wish_of(query) {
+        Ok(wish) => wish,
+        Err(fault) => return refuse_pairs(writer, query, fault),
     };
-    let Some(by) = query.by else {
-        return refuse(writer, NoAnswer::Column);
-    };
-    let Ok(pair) = asked_pair(by) else {
-        return refuse(writer, NoAnswer::Column);
-    };
-    let form = form_of(query.json, query.csv);
-    let wish = Wish { level, pair, form };
     if query.unverified {
-        return run_pairs_said(alloc, folder, wish, writer);
+        return run_pairs_said(alloc, folder, query, wish, writer);
     }
-    let shelf = match load_to(rt, alloc, folder, level) {
+    let shelf = match load_to(rt, alloc, folder, wish.level) {
         Ok(shelf) => shelf,
-        Err(fault) => return refuse(writer, fault),
+        Err(fault) => return refuse_pairs(writer, query, fault),
     };
     match print_pairs_on(rt, alloc, &shelf, wish, writer) {
         Ok(written) => status_of(written),
-        Err(fault) => refuse(writer, fault),
+        Err(fault) => refuse_pairs(writer, query, NoAnswer::Folder { fault }),
     }
+}
+
+/// Prints the refusal, and gives the status 1.
+fn refuse_pairs<W: Replies>(writer: &mut W, query: &CountsQuery<'_>, fault: NoAnswer) -> u8
+    ensures { result ≡ 1 }
+{
+    let form = form_of(query.json, query.csv);
+    refuse_level(writer, form, "counts", query.level, fault)
 }
 
 /// Prints the same by what the files say.
 fn run_pairs_said<F: Folder, W: Replies>(
     alloc: Global,
     folder: &mut F,
+    query: &CountsQuery<'_>,
     wish: Wish,
     writer: &mut W,
 ) -> u8
@@ -210,10 +239,10 @@ fn run_pairs_said<F: Folder, W: Replies>(
 {
     let opened = match open_to(folder, wish.level) {
         Ok(opened) => opened,
-        Err(fault) => return refuse(writer, fault),
+        Err(fault) => return refuse_pairs(writer, query, fault),
     };
     match print_pairs_said(alloc, opened.levels, folder, wish, writer) {
         Ok(written) => status_of(written),
-        Err(fault) => refuse(writer, fault),
+        Err(fault) => refuse_pairs(writer, query, NoAnswer::Folder { fault }),
     }
 }

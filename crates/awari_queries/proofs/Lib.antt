@@ -1,3 +1,5 @@
+pub mod HeldLaws
 pub mod HoldingLaws
 pub mod Sampling
 pub mod SpanLaws
+pub mod SortLaws

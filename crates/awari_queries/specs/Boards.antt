@@ -1,10 +1,14 @@
 -- Which spans are asked for of boards, and how these are printed.
-use Rattle.std.specs.Prelude.{◌⊎◌, Bool, true, false}
+use Rattle.std.specs.Prelude.{ℕ, List, Option, Bool, true, false}
+use Rattle.std.specs.Borrow.{Bor}
 use Rattle.awari_queries.specs.Spans.{AsksFor, AsksForNone}
 use Rattle.awari_queries.specs.declared.boards.BoardSpans.{BoardSpans}
 use Rattle.awari_queries.specs.declared.boards.Form.{Form}
 use Rattle.awari_queries.specs.declared.boards.Form.TheVariants.{Text, Csv, Json}
 use Rattle.awari_queries.specs.declared.boards.Spans.{Spans}
+use Rattle.awari_queries.specs.declared.spans.NoSpan.{NoSpan}
+use Rattle.awari_queries.specs.declared.spans.NoSpan.TheVariants.{Value, Distance, Plan, Captures, Side, Moves, Keep, Trap}
+use Rattle.awari_queries.specs.declared.spans.Span.{Span}
 
 -- these are the spans that the words name
 pub record AreAskedFor (words : BoardSpans) (spans : Spans) : Type 0 where
@@ -17,11 +21,27 @@ pub record AreAskedFor (words : BoardSpans) (spans : Spans) : Type 0 where
   pub keep : AsksFor words.keep spans.keep
   pub trap : AsksFor words.trap spans.trap
 
--- one of the words is no span
-abbrev pub AsksForNoSpans : BoardSpans → Type 0
-AsksForNoSpans words =
-    AsksForNone words.value ⊎ AsksForNone words.distance ⊎ AsksForNone words.plan ⊎ AsksForNone words.captures
-    ⊎ AsksForNone words.side ⊎ AsksForNone words.moves ⊎ AsksForNone words.keep ⊎ AsksForNone words.trap
+-- the word asks for a span, or there is none
+abbrev pub AsksForSome : Option (Bor (List ℕ)) → Type 0
+AsksForSome word = (span : Option Span) × AsksFor word span
+
+-- the word of this option is no span, and no word before it is none
+abbrev pub HasNoSpan : BoardSpans → NoSpan → Type 0
+HasNoSpan words Value = AsksForNone words.value
+HasNoSpan words Distance = AsksForSome words.value × AsksForNone words.distance
+HasNoSpan words Plan = AsksForSome words.value × AsksForSome words.distance × AsksForNone words.plan
+HasNoSpan words Captures = AsksForSome words.value × AsksForSome words.distance × AsksForSome words.plan × AsksForNone words.captures
+HasNoSpan words Side =
+    AsksForSome words.value × AsksForSome words.distance × AsksForSome words.plan × AsksForSome words.captures × AsksForNone words.side
+HasNoSpan words Moves =
+    AsksForSome words.value × AsksForSome words.distance × AsksForSome words.plan × AsksForSome words.captures
+    × AsksForSome words.side × AsksForNone words.moves
+HasNoSpan words Keep =
+    AsksForSome words.value × AsksForSome words.distance × AsksForSome words.plan × AsksForSome words.captures
+    × AsksForSome words.side × AsksForSome words.moves × AsksForNone words.keep
+HasNoSpan words Trap =
+    AsksForSome words.value × AsksForSome words.distance × AsksForSome words.plan × AsksForSome words.captures
+    × AsksForSome words.side × AsksForSome words.moves × AsksForSome words.keep × AsksForNone words.trap
 
 -- the form that is asked for
 abbrev pub form_of : Bool → Bool → Form

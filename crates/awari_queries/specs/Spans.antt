@@ -1,8 +1,10 @@
 -- Spans of numbers: `A..B`, `A..`, `..B`, or one number.
-use Rattle.std.specs.Prelude.{◌≡◌, ◌≢◌, ◌⊎◌, ℕ, Bool, true, false, ◌&&◌, List, ◌++◌, ◌∷◌, [], ℤ, pos, neg_ℤ, int_le, ◌≤ℤ◌, Option, Some, None, FitsSigned}
+use Rattle.std.specs.Prelude.{◌≡◌, ◌≢◌, ◌⊎◌, ℕ, Bool, true, false, ◌&&◌, List, ◌++◌, ◌∷◌, [], codes, ℤ, pos, neg_ℤ, int_le, ◌≤ℤ◌, Option, Some, None, FitsSigned}
 use Rattle.std.specs.Int.{w64}
 use Rattle.std.specs.Borrow.{Bor}
 use Rattle.std.specs.Str.Parse.{IsNumeral, signed_digits_value, without_leading_sign}
+use Rattle.awari_queries.specs.declared.spans.NoSpan.{NoSpan}
+use Rattle.awari_queries.specs.declared.spans.NoSpan.TheVariants.{Value, Distance, Plan, Captures, Side, Moves, Keep, Trap}
 use Rattle.awari_queries.specs.declared.spans.Span.{Span}
 
 -- the text is a decimal number of at most 64 bits, with a sign or not
@@ -50,6 +52,17 @@ AsksFor (Some text) (Some span) = IsSpan text.now span
 abbrev pub AsksForNone : Option (Bor (List ℕ)) → Type 0
 AsksForNone None = ⊥
 AsksForNone (Some text) = (span : Span) → IsSpan text.now span → ⊥
+
+-- an option, as it is written
+abbrev pub option_of : NoSpan → List ℕ
+option_of Value = codes "--value"
+option_of Distance = codes "--distance"
+option_of Plan = codes "--plan"
+option_of Captures = codes "--captures"
+option_of Side = codes "--side"
+option_of Moves = codes "--moves"
+option_of Keep = codes "--keep"
+option_of Trap = codes "--trap"
 
 -- the number is in the span, if there is one
 abbrev pub is_in : Option Span → ℤ → Bool

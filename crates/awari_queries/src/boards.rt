@@ -1,7 +1,7 @@
 //! Which boards of a level are asked for.
 
-ghost use Rattle.std.specs.Prelude.{◌≡◌, IfOk, OnErr};
-ghost use Rattle.awari_queries.specs.Boards.{AreAskedFor, AsksForNoSpans, form_of};
+ghost use Rattle.std.specs.Prelude.{◌≡◌, IfErr, IfOk};
+ghost use Rattle.awari_queries.specs.Boards.{AreAskedFor, HasNoSpan, form_of};
 
 use crate::spans::{NoSpan, Span, asked_span};
 
@@ -26,9 +26,9 @@ pub struct BoardsQuery<'a> {
     pub random: u32,
     /// The number that decides which are drawn.
     pub seed: u32,
-    /// The column by which the first ones are found, with `-` before it for the greatest first.
+    /// The column by which they are sorted, with `-` before it for the greatest first.
     pub sort: Option<&'a str>,
-    /// This many of the first ones; 0 is all.
+    /// This many of the first ones, by rank or as they are sorted; 0 is all.
     pub most: u32,
     /// Whether each line has the number of legal moves.
     pub with_moves: bool,
@@ -107,19 +107,19 @@ pub struct Spans {
     pub trap: Option<Span>,
 }
 
-/// The spans that the words name. They are refused as 95 if one of them is no span.
+/// The spans that the words name. They are refused as 95, for the first option whose word is no span.
 pub fn asked_spans(words: &BoardSpans<'_>) -> Result<Spans, NoSpan>
     ensures asked { IfOk result (AreAskedFor words.now) }
-    ensures none { OnErr result (AsksForNoSpans words.now) }
+    ensures none { IfErr result (HasNoSpan words.now) }
 {
     Ok(Spans {
-        value: asked_span(words.value)?,
-        distance: asked_span(words.distance)?,
-        plan: asked_span(words.plan)?,
-        captures: asked_span(words.captures)?,
-        side: asked_span(words.side)?,
-        moves: asked_span(words.moves)?,
-        keep: asked_span(words.keep)?,
-        trap: asked_span(words.trap)?,
+        value: asked_span(words.value, NoSpan::Value)?,
+        distance: asked_span(words.distance, NoSpan::Distance)?,
+        plan: asked_span(words.plan, NoSpan::Plan)?,
+        captures: asked_span(words.captures, NoSpan::Captures)?,
+        side: asked_span(words.side, NoSpan::Side)?,
+        moves: asked_span(words.moves, NoSpan::Moves)?,
+        keep: asked_span(words.keep, NoSpan::Keep)?,
+        trap: asked_span(words.trap, NoSpan::Trap)?,
     })
 }

@@ -1,7 +1,7 @@
 //! Numbers that are known of each board, by name.
 
-ghost use Rattle.std.specs.Prelude.{◌≡◌, IfOk, IfSome, IsNone, OnErr};
-ghost use Rattle.awari_queries.specs.Columns.{AsksForNoPair, AsksForPair, IsCountedName, name_of};
+ghost use Rattle.std.specs.Prelude.{◌≡◌, IfErr, IfOk, IfSome, IsNone};
+ghost use Rattle.awari_queries.specs.Columns.{AsksForPair, HasNoPair, IsCountedName, IsPairOf, name_of, option_of, sentence_of};
 
 /// A number that is known of each board.
 #[derive(Clone, Copy, Debug, PartialEq, Eq)]
@@ -39,10 +39,44 @@ impl Column {
     }
 }
 
-/// What is asked for is no column, or no two that make a table, or it is not said how many boards are to be
-/// sorted.
+/// Why boards are not sorted or counted by what is asked for.
 #[derive(Clone, Copy, Debug, PartialEq, Eq)]
-pub struct NoColumn;
+pub enum NoColumn {
+    /// The word of `--sort` names no column.
+    Sort,
+    /// The word of `--by` has not two names of columns with a comma between them, or one is the rank.
+    By,
+    /// It has the name of one column twice.
+    Twice,
+    /// Columns are asked for, but no level.
+    Level,
+}
+
+impl NoColumn {
+    /// The option, as it is written.
+    pub fn option(self) -> &'static str
+        ensures { result.now ≡ option_of self }
+    {
+        match self {
+            NoColumn::Sort => "--sort",
+            NoColumn::By | NoColumn::Twice | NoColumn::Level => "--by",
+        }
+    }
+
+    /// What is wrong, in one sentence.
+    pub fn sentence(self) -> &'static str
+        ensures { result.now ≡ sentence_of self }
+    {
+        match self {
+            NoColumn::Sort => "A column is rank, value, distance, plan, captures, moves or keep",
+            NoColumn::By => {
+                "Columns are two of value, distance, plan, captures, moves and keep, with a comma between"
+            }
+            NoColumn::Twice => "Both columns are the same",
+            NoColumn::Level => "LEVEL is missing",
+        }
+    }
+}
 
 /// The column that the text names.
 pub(crate) fn column_of(text: &str) -> Option<Column>
@@ -66,7 +100,7 @@ pub(crate) fn column_of(text: &str) -> Option<Column>
 pub struct Pair {
     /// The one that stands first.
     pub first: Column,
-    /// The other one, which may be the same.
+    /// The other one.
     pub second: Column,
 }
 
@@ -82,17 +116,28 @@ fn counted_column(text: &str) -> Option<Column>
     Some(column)
 }
 
+/// The two columns of which a word has the names, with a comma between them, if neither is the rank.
+fn named_pair(word: &str) -> Option<Pair>
+    ensures some { IfSome result (IsPairOf word.now) }
+    ensures none { IsNone result → (pair : Pair) → IsPairOf word.now pair → ⊥ }
+{
+    let (first, second) = word.split_once(',')?;
+    let first = counted_column(first)?;
+    let second = counted_column(second)?;
+    Some(Pair { first, second })
+}
+
 /// The two columns of which a word has the names, with a comma between them. It is refused as 96 if it has
-/// not, or if one of them is the rank.
+/// not, if one of them is the rank, or if both are the same.
 pub fn asked_pair(word: &str) -> Result<Pair, NoColumn>
     ensures asked { IfOk result (AsksForPair word.now) }
-    ensures none { OnErr result (AsksForNoPair word.now) }
+    ensures none { IfErr result (HasNoPair word.now) }
 {
-    let Some((first, second)) = word.split_once(',') else {
-        return Err(NoColumn);
+    let Some(pair) = named_pair(word) else {
+        return Err(NoColumn::By);
     };
-    let (Some(first), Some(second)) = (counted_column(first), counted_column(second)) else {
-        return Err(NoColumn);
-    };
-    Ok(Pair { first, second })
+    if pair.first == pair.second {
+        return Err(NoColumn::Twice);
+    }
+    Ok(pair)
 }

@@ -1,10 +1,13 @@
 //! The first boards by a number, of those that come one by one.
 
-ghost use Rattle.std.specs.Prelude.{◌≡◌, ◌≤◌, ◌<◌, ◌++◌, ◌∷◌, [], List, IfOk, IsTrue, false, insert, int_lt, length, slice_index_or, vec_len, ◌-◌};
-ghost use Rattle.awari_queries.specs.Holding.{first_by, number_of, placed};
+ghost use Rattle.std.specs.Prelude.{◌≡◌, ◌≤◌, ◌<◌, ◌++◌, ◌∷◌, ◌-◌, [], List, IfOk, IfSome, IsTrue, Some, true, ℤ, length, int_le, slice_index_or};
+ghost use Rattle.awari_queries.specs.Holding.{Holds, first, number_of, sorted};
 ghost use Rattle.awari_queries.specs.declared.holding.Held.{Held as AHeld};
 
-use std::alloc::AllocError;
+use std::alloc::{AllocError, Global};
+
+/// How many boards are held at least before they are sorted.
+const FEW: usize = 8192;
 
 /// A board that is held.
 #[derive(Clone, Copy, Debug, Default, PartialEq, Eq)]
@@ -15,52 +18,117 @@ pub struct Held {
     pub rank: u32,
 }
 
-/// How many stand before one of this number: all that come first and have no greater one.
-fn place_of(held: &[Held], one: Held) -> usize
-    ensures inside { result ≤ length held.now }
-    ensures placed { insert held.now result one ≡ placed number_of one held.now }
-{
-    let mut place = 0;
-    while place < held.len() && held[place].number <= one.number {
-        place += 1;
-    }
-    place
+/// The first boards by a number, of those that came: all, or at most twice as many as are wanted, or 8192.
+#[derive(Drop)]
+pub struct Holding {
+    /// How many are wanted; 0 is all.
+    most: u32,
+    /// The first ones, and others.
+    boards: Vec<Held>,
+    /// As many as are wanted have no greater number than this.
+    bound: Option<i64>,
 }
 
-/// Whether as many are held as are wanted, and the last of them has no greater number than this one.
-fn is_behind(held: &[Held], most: u32, one: Held) -> bool
-    ensures full { IsTrue result → most ≤ length held.now }
-    ensures behind { IsTrue result → (d : AHeld) → 0 < length held.now → int_lt one.number (slice_index_or held.now (length held.now - 1) d).number ≡ false }
-{
-    if held.len() < most as usize {
-        return false;
+impl Holding {
+    /// What holds no board yet, of which so many are wanted; 0 is all.
+    pub fn new(alloc: Global, most: u32) -> Holding
+        ensures none { Holds [] result }
+        ensures most { result.most ≡ most }
+    {
+        Holding {
+            most,
+            boards: Vec::new(alloc),
+            bound: None,
+        }
     }
-    held.is_empty() || held[held.len() - 1].number <= one.number
+
+    /// Holds one more, if it may be among the first ones. It takes memory for one, and to sort; it is refused if
+    /// there is none, and then nothing is said of those that are held.
+    pub fn hold(&mut self, one: Held) -> Result<(), AllocError>
+        ensures held { IfOk result (λ _. (seen : List AHeld) → Holds seen self.old → Holds (seen ++ one ∷ []) self.new) }
+        ensures most { self.new.most ≡ self.old.most }
+    {
+        if is_behind(self.bound, one) {
+            return Ok(());
+        }
+        push(&mut self.boards, one)?;
+        if self.most == 0 || self.boards.len() < FEW.max(2 * self.most as usize) {
+            return Ok(());
+        }
+        let done = self.cut()?;
+        Ok(done)
+    }
+
+    /// Holds the first ones alone. Condition: not all are wanted.
+    fn cut(&mut self) -> Result<(), AllocError>
+        requires { 0 < self.old.most }
+        ensures held { IfOk result (λ _. (seen : List AHeld) → Holds seen self.old → Holds seen self.new) }
+        ensures most { self.new.most ≡ self.old.most }
+    {
+        keep_first(&mut self.boards, self.most)?;
+        self.bound = bound_of(self.boards.as_slice(), self.most);
+        Ok(())
+    }
+
+    /// The first ones of those that came, sorted. It takes memory to sort them, and is refused if there is none.
+    pub fn into_first(self) -> Result<Vec<Held>, AllocError>
+        ensures { IfOk result (λ held. (seen : List AHeld) → Holds seen self → held.items ≡ first self.most (sorted number_of seen)) }
+    {
+        let Holding {
+            most,
+            mut boards,
+            ..
+        } = self;
+        keep_first(&mut boards, most)?;
+        Ok(boards)
+    }
 }
 
-/// Holds one more if it is among the first ones, of those that came so far and this one. It takes memory for
-/// one, and is refused if there is none; then nothing is said of those that are held.
-pub fn hold(held: &mut Vec<Held>, most: u32, one: Held) -> Result<(), AllocError>
-    ensures { IfOk result (λ _.
-        (seen : List AHeld) → held.old.items ≡ first_by most number_of seen → held.new.items ≡ first_by most number_of (seen ++ one ∷ [])
-        ) }
+/// Whether a board's number is not below the bound, if there is one.
+fn is_behind(bound: Option<i64>, one: Held) -> bool
+    ensures { IsTrue result → (n : ℤ) × (bound ≡ Some n) × (int_le n one.number ≡ true) }
 {
-    if is_behind(held.as_slice(), most, one) {
-        return Ok(());
+    match bound {
+        None => false,
+        Some(bound) => bound <= one.number,
     }
-    let place = place_of(held.as_slice(), one);
-    put(held, place, one)?;
-    held.truncate(most as usize);
-    Ok(())
 }
 
-/// Puts one at a place. Condition: there are no fewer before it.
-fn put(held: &mut Vec<Held>, place: usize, one: Held) -> Result<(), AllocError>
-    requires { place ≤ vec_len held.old }
-    ensures { IfOk result (λ _. held.new.items ≡ insert held.old.items place one) }
+/// Puts one behind the others.
+fn push(boards: &mut Vec<Held>, one: Held) -> Result<(), AllocError>
+    ensures { IfOk result (λ _. boards.new.items ≡ boards.old.items ++ one ∷ []) }
 {
-    match held.insert(place, one) {
+    match boards.push(one) {
         Ok(()) => Ok(()),
         Err(_) => Err(AllocError),
     }
+}
+
+/// Sorts boards, and drops those behind the first ones.
+fn keep_first(boards: &mut Vec<Held>, most: u32) -> Result<(), AllocError>
+    ensures { IfOk result (λ _. boards.new.items ≡ first most (sorted number_of boards.old.items)) }
+{
+    sort(boards)?;
+    if most > 0 {
+        boards.truncate(most as usize);
+    }
+    Ok(())
+}
+
+/// Sorts boards by number. Those of one number stay in their order.
+fn sort(boards: &mut Vec<Held>) -> Result<(), AllocError>
+    ensures { IfOk result (λ _. boards.new.items ≡ sorted number_of boards.old.items) }
+{
+    let done = boards.sort_by_key(|held: &Held| held.number)?;
+    Ok(done)
+}
+
+/// The number of the last of these, if there are as many as are wanted.
+fn bound_of(boards: &[Held], most: u32) -> Option<i64>
+    ensures { IfSome result (λ n. (0 < most) × (most ≤ length boards.now) × ((d : AHeld) → n ≡ (slice_index_or boards.now (length boards.now - 1) d).number)) }
+{
+    if boards.is_empty() || boards.len() < most as usize || most == 0 {
+        return None;
+    }
+    Some(boards[boards.len() - 1].number)
 }

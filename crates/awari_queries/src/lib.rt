@@ -25,7 +25,7 @@ mod spans;
 pub use boards::{BoardSpans, BoardsQuery, Form, Spans, asked_spans, form_of};
 pub use columns::{Column, NoColumn, Pair, asked_pair};
 pub use draws::{Draw, draw_of, is_taken, samples_are_as_large_as_wanted};
-pub use holding::{Held, hold};
+pub use holding::{Held, Holding};
 pub use orders::{Order, asked_order, key_of};
 pub use questions::{
     AskQuery, CountsQuery, LineQuery, MovesQuery, ServeQuery, TextQuery, VerifyQuery,

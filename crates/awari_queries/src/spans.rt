@@ -1,7 +1,7 @@
 //! Spans of numbers, as `boards` is asked for them.
 
-ghost use Rattle.std.specs.Prelude.{◌≡◌, ◌≤ℤ◌, IfOk, IfSome, IsNone, OnErr, ℤ};
-ghost use Rattle.awari_queries.specs.Spans.{AsksFor, AsksForNone, IsEnd, IsRange, IsSpan, SpellsNumber, has, is_in};
+ghost use Rattle.std.specs.Prelude.{◌≡◌, ◌≤ℤ◌, IfErr, IfOk, IfSome, IsNone, ℤ};
+ghost use Rattle.awari_queries.specs.Spans.{AsksFor, AsksForNone, IsEnd, IsRange, IsSpan, SpellsNumber, has, is_in, option_of};
 
 /// The numbers from `low` to `high`, both of them too.
 #[derive(Clone, Copy, Debug, PartialEq, Eq)]
@@ -32,9 +32,44 @@ pub fn has(span: Option<Span>, number: Option<u8>) -> bool
     }
 }
 
-/// What is asked for is no span of numbers.
+/// The option whose word is no span of numbers. Numbers end at 64 bits.
 #[derive(Clone, Copy, Debug, PartialEq, Eq)]
-pub struct NoSpan;
+pub enum NoSpan {
+    /// `--value`.
+    Value,
+    /// `--distance`.
+    Distance,
+    /// `--plan`.
+    Plan,
+    /// `--captures`.
+    Captures,
+    /// `--side`.
+    Side,
+    /// `--moves`.
+    Moves,
+    /// `--keep`.
+    Keep,
+    /// `--trap`.
+    Trap,
+}
+
+impl NoSpan {
+    /// The option, as it is written.
+    pub fn option(self) -> &'static str
+        ensures { result.now ≡ option_of self }
+    {
+        match self {
+            NoSpan::Value => "--value",
+            NoSpan::Distance => "--distance",
+            NoSpan::Plan => "--plan",
+            NoSpan::Captures => "--captures",
+            NoSpan::Side => "--side",
+            NoSpan::Moves => "--moves",
+            NoSpan::Keep => "--keep",
+            NoSpan::Trap => "--trap",
+        }
+    }
+}
 
 /// The number that the text spells.
 fn number_of(text: &str) -> Option<i64>
@@ -101,16 +136,16 @@ fn span_of(text: &str) -> Option<Span>
     }
 }
 
-/// The span that is asked for, if there is one. It is refused as 95 if the text is no span.
-pub(crate) fn asked_span(text: Option<&str>) -> Result<Option<Span>, NoSpan>
+/// The span that is asked for, if there is one. It is refused by this fault if the text is no span.
+pub(crate) fn asked_span(text: Option<&str>, fault: NoSpan) -> Result<Option<Span>, NoSpan>
     ensures asked { IfOk result (AsksFor text.entry) }
-    ensures none { OnErr result (AsksForNone text.entry) }
+    ensures none { IfErr result (λ told. (told ≡ fault) × AsksForNone text.entry) }
 {
     let Some(text) = text else {
         return Ok(None);
     };
     match span_of(text) {
         Some(span) => Ok(Some(span)),
-        None => Err(NoSpan),
+        None => Err(fault),
     }
 }

@@ -82,10 +82,14 @@ of_files n =
     if n == 92 then codes "The answers of the service can't be written" else
     if n == 93 then codes "The level has fewer boards" else
     if n == 94 then codes "There are 2^64 plays or more, which are not counted" else
-    if n == 95 then codes "Values and distances are A..B, A.., ..B or A, the lower end first" else
-    if n == 96 then codes "There is no such column, or it is not said how many boards or of which level" else
+    if n == 95 then codes "A span is A..B, A.., ..B or A, the lower end first, of numbers of at most 64 bits" else
+    if n == 96 then codes "Boards are not sorted or counted by that" else
     codes "No answer has this number"
 
 -- the sentence of an answer, and of each other number that it is none
 abbrev pub sentence : ℕ → List ℕ
 sentence n = if nat_lt n 30 then of_tables n else if nat_lt n 60 then of_builds n else of_files n
+
+-- of 22, where the rule is V7, which a level's limit breaks
+abbrev pub sentence_of_limit : List ℕ
+sentence_of_limit = codes "The limit of the level is not its greatest distance"

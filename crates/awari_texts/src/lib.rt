@@ -14,7 +14,7 @@
 #![tactic(auto)]
 
 ghost use Rattle.std.specs.Prelude.{◌≡◌, ◌++◌, ◌∷◌, []};
-ghost use Rattle.awari_texts.specs.Sentences.{of_builds, of_files, of_tables, sentence};
+ghost use Rattle.awari_texts.specs.Sentences.{of_builds, of_files, of_tables, sentence, sentence_of_limit};
 
 /// The sentence of an answer. Every number has one.
 pub fn sentence(answer: u8) -> &'static [u8]
@@ -35,6 +35,13 @@ pub fn ended_sentence(answer: u8) -> &'static [u8]
     } else {
         of_files(answer)
     }
+}
+
+/// The sentence of 22 where the rule is V7, which a level's limit breaks.
+pub fn sentence_of_limit() -> &'static str
+    ensures { result.now ≡ sentence_of_limit }
+{
+    "The limit of the level is not its greatest distance"
 }
 
 /// Of boards, moves, texts and levels.
@@ -128,8 +135,9 @@ fn of_files(answer: u8) -> &'static [u8]
         92 => b"The answers of the service can't be written\0",
         93 => b"The level has fewer boards\0",
         94 => b"There are 2^64 plays or more, which are not counted\0",
-        95 => b"Values and distances are A..B, A.., ..B or A, the lower end first\0",
-        96 => b"There is no such column, or it is not said how many boards or of which level\0",
+        95 =>
+            b"A span is A..B, A.., ..B or A, the lower end first, of numbers of at most 64 bits\0",
+        96 => b"Boards are not sorted or counted by that\0",
         _ => b"No answer has this number\0",
     }
 }

@@ -9,4 +9,4 @@ use Rattle.awari_levels.proofs.counts.print_distances.Given as goal
 
 abbrev pub invariant-loop-place : goal.invariant-loop-place
 invariant-loop-place g l = (entries : List Entry) → AreByDistance l.limit entries l.counts → Appends (g.W.Write.contents l.fn.writer) (g.W.Write.contents l.writer)
-    (flat_map (λ k. share_line (shown_distance l.json k) (boards_of_distance entries k)) (range_with_len 0 l.place))
+    (flat_map (λ k. share_line (shown_distance l.form k) (boards_of_distance entries k)) (range_with_len 0 l.place))

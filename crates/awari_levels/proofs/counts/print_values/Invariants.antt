@@ -9,4 +9,4 @@ use Rattle.awari_levels.proofs.counts.print_values.Given as goal
 
 abbrev pub invariant-loop-place : goal.invariant-loop-place
 invariant-loop-place g l = (entries : List Entry) → AreByValue entries l.counts → Appends (g.W.Write.contents l.fn.writer) (g.W.Write.contents l.writer)
-    (flat_map (λ k. share_line (shown_value l.json (value_at k)) (boards_of_value entries (value_at k))) (range_with_len 0 l.place))
+    (flat_map (λ k. share_line (shown_value l.form (value_at k)) (boards_of_value entries (value_at k))) (range_with_len 0 l.place))

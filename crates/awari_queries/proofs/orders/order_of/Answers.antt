@@ -14,4 +14,4 @@ pub returns-in_err-column_of-in-None-clause-none : goal.returns-in_err-column_of
 returns-in_err-column_of-in-None-clause-none c = λ _ order is.
     let ascii : 45 < 128 = omega arith in
     let stripped = strip_prefix_char 45 c.args.word.now c.strip_prefix.result c.strip_prefix.ensures.cases ascii in
-    none c.args.word.now order.by order.descending is.names (rw c.in-None.is at stripped) (c.in_err-column_of-in-None.ensures.none refl)
+    none c.args.word.now order.by order.descending is (rw c.in-None.is at stripped) (c.in_err-column_of-in-None.ensures.none refl)
