@@ -36,6 +36,14 @@ IsUnfit below bytes number =
 abbrev pub IsSized : ℕ → List ℕ → Type 0
 IsSized level bytes = length bytes ≡ file_len level
 
+-- Why the bytes are not the file of this level, by their number alone: 20 if the file of another level has as many, and else 60 or 67 if
+-- there are too few or too many.
+pub record IsMisfit (level : ℕ) (bytes : List ℕ) (answer : ℕ) : Type 0 where
+  pub some : answer ≢ 0
+  pub other : (n : ℕ) → n ≤ 24 → IsSized n bytes → answer ≡ 20
+  pub short : ((n : ℕ) → n ≤ 24 → IsSized n bytes → ⊥) → length bytes < file_len level → answer ≡ 60
+  pub long : ((n : ℕ) → n ≤ 24 → IsSized n bytes → ⊥) → file_len level ≤ length bytes → answer ≡ 67
+
 -- It is what the bytes say of the board, if they are the file of its level.
 abbrev pub TellsEntry : List ℕ → List ℕ → PlainEntry → Type 0
 TellsEntry bytes board told = (version : ℕ) (image : Image) (below : List ℕ) → HasFile version image below → image.level ≡ sum board
@@ -57,9 +65,14 @@ AreFilesOf files levels = (i : ℕ) → i < length files → IsFileOfLevel i (sl
 abbrev pub AreSized : List (List ℕ) → ℕ → Type 0
 AreSized files count = (i : ℕ) → i < count → IsSized i (slice_index_or files i [])
 
+-- The files below this level are as long as they should be, and its own is not, for this reason.
+pub record IsFirstMisfit (files : List (List ℕ)) (level answer : ℕ) : Type 0 where
+  pub below : AreSized files level
+  pub here : IsMisfit level (slice_index_or files level []) answer
+
 -- The answer for a board with this many stones by these files: 0 if they are all there up to its level, each as long as it should be.
 pub record IsFilesAnswer (stones : ℕ) (files : List (List ℕ)) (answer : ℕ) : Type 0 where
   pub many : 48 < stones → answer ≡ 3
   pub high : stones ≤ 48 → (24 < stones) ⊎ (length files ≤ stones) → answer ≡ 59
-  pub short : stones ≤ 24 → stones < length files → answer ≢ 0 → answer ≡ 60
+  pub misfit : stones ≤ 24 → stones < length files → answer ≢ 0 → (level : ℕ) × (level ≤ stones) × IsFirstMisfit files level answer
   pub sized : stones ≤ 24 → stones < length files → (answer ≡ 0) ↔ AreSized files (stones + 1)

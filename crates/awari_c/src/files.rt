@@ -1,6 +1,6 @@
 //! What C calls with the bytes of files, where they lie, and with no handle.
 
-ghost use Rattle.std.specs.Prelude.{◌≡◌, ◌≢◌, ◌<◌, ◌≤◌, ◌+◌, ◌*◌, ◌↔◌, ℕ, List, IsTrue, false, sum, length, take, drop, map, pos, ◌-ℤ◌, slice_index, slice_index_or, [], ◌∷◌};
+ghost use Rattle.std.specs.Prelude.{◌≡◌, ◌≢◌, ◌<◌, ◌≤◌, ◌+◌, ◌*◌, ◌↔◌, ℕ, List, IsFalse, IsTrue, false, sum, length, take, drop, map, pos, ◌-ℤ◌, slice_index, slice_index_or, [], ◌∷◌};
 ghost use Rattle.std.specs.Int.{w8, w32, cast_signed, from_be_bytes};
 ghost use Rattle.awari_board.specs.Rules.{IsLegal};
 ghost use Rattle.awari_rank.specs.Rank.{size_of};
@@ -8,7 +8,7 @@ ghost use Rattle.awari_table.specs.Certificate.{plies};
 ghost use Rattle.awari_table.specs.Images.{table_of};
 ghost use Rattle.awari_table.specs.declared.images.Image.{Image};
 ghost use Rattle.awari_plain.specs.Boards.{IsAnswer};
-ghost use Rattle.awari_c.specs.Files.{AreFilesOf, AreSized, IsFilesAnswer, IsOver, IsSized, IsUnfit, TellsEntry};
+ghost use Rattle.awari_c.specs.Files.{AreFilesOf, AreSized, IsFilesAnswer, IsFirstMisfit, IsMisfit, IsOver, IsSized, IsUnfit, TellsEntry};
 ghost use Rattle.awari_plain.specs.Told.{TellsMove};
 ghost use Rattle.awari_plain.specs.declared.answers.PlainMove.{PlainMove as AMove};
 
@@ -19,18 +19,19 @@ use awari_plain::{NOT_YET, PlainEntry, PlainMove, no_move, told_worth};
 use awari_play::MoveWorth;
 use awari_rank::rank;
 use awari_table::{Counted, HIGHEST_LEVEL};
+use awari_verify::VerifyFault;
 use std::alloc::Global;
 
 /// What the file of the board's level says of the board, and 0. It is 3 if the board has more than 48
-/// stones, 59 if it has more than 24, and 60 if there are not as many bytes as that file has. Nothing is
-/// verified: what it says is the truth if a level was verified that has these very bytes. It copies
-/// nothing, and takes no memory.
+/// stones, and 59 if it has more than 24. If there are not as many bytes as that file has, it is 20 if the file
+/// of another level has as many, and else 60 or 67 for too few or too many. Nothing is verified: what it says is
+/// the truth if a level was verified that has these very bytes. It copies nothing, and takes no memory.
 #[unsafe(no_mangle)]
 pub extern "C" fn awari_probe_file(bytes: &[u8], pits: &[u8; 12], out: &mut PlainEntry) -> u8
     ensures entry { result ≡ 0 → TellsEntry bytes.now pits.now out.new }
     ensures many { 48 < sum pits.now → result ≡ 3 }
     ensures high { 24 < sum pits.now → sum pits.now ≤ 48 → result ≡ 59 }
-    ensures short { sum pits.now ≤ 24 → result ≢ 0 → result ≡ 60 }
+    ensures misfit { sum pits.now ≤ 24 → result ≢ 0 → IsMisfit (sum pits.now) bytes.now result }
     ensures sized { sum pits.now ≤ 24 → (result ≡ 0) ↔ IsSized (sum pits.now) bytes.now }
     ensures untouched { result ≢ 0 → out.new ≡ out.old }
 {
@@ -42,7 +43,7 @@ pub extern "C" fn awari_probe_file(bytes: &[u8], pits: &[u8; 12], out: &mut Plai
         return NOT_YET;
     }
     if !is_sized(bytes, stones) {
-        return FileFault::Truncated.number();
+        return misfit(bytes, stones);
     }
     let found = entry_at(bytes, &board);
     *out = found;
@@ -50,9 +51,10 @@ pub extern "C" fn awari_probe_file(bytes: &[u8], pits: &[u8; 12], out: &mut Plai
 }
 
 /// What each pit of a board is worth by the files of level 0 up to the board's, and 0; `files` has each at
-/// its level's place. It is 3 if the board has more than 48 stones, 59 if it has more than 24 or the file
-/// of its level is not there, and 60 if one of them has not as many bytes as the file of its level.
-/// Nothing is verified, as by `awari_probe_file`. It copies nothing, and takes no memory.
+/// its level's place. It is 3 if the board has more than 48 stones, and 59 if it has more than 24 or the file
+/// of its level is not there. If one of them has not as many bytes as the file of its level, it is 20, 60 or 67
+/// for the first of these, as by `awari_probe_file`. Nothing is verified, as there. It copies nothing, and takes
+/// no memory.
 #[unsafe(no_mangle)]
 pub extern "C" fn awari_probe_moves_files(
     files: &[&[u8]],
@@ -71,8 +73,9 @@ pub extern "C" fn awari_probe_moves_files(
     if stones > HIGHEST_LEVEL || stones as usize >= files.len() {
         return NOT_YET;
     }
-    if !are_sized(files, stones) {
-        return FileFault::Truncated.number();
+    let answer = first_misfit(files, stones);
+    if answer != 0 {
+        return answer;
     }
     let moves = moves_by(files, &board);
     *out = moves;
@@ -87,18 +90,48 @@ fn is_sized(bytes: &[u8], level: u8) -> bool
     bytes.len() as u64 == file_len(level)
 }
 
-/// Whether each file up to this level's has as many bytes as it should.
-fn are_sized(files: &[&[u8]], highest: u8) -> bool
-    requires low { highest ≤ 24 }
-    requires there { highest < length files.now }
-    ensures { IsTrue result ↔ AreSized (map (λ file. file.now) files.now) (highest + 1) }
+/// Why there are not as many bytes as the file of this level has. Condition: there are not.
+fn misfit(bytes: &[u8], level: u8) -> u8
+    requires low { level ≤ 24 }
+    requires other { IsSized level bytes.now → ⊥ }
+    ensures { IsMisfit level bytes.now result }
 {
-    for level in 0..highest + 1 {
-        if !is_sized(file_at(files, level), level) {
-            return false;
+    if is_long_as_some(bytes) {
+        VerifyFault::WrongLevel.number()
+    } else if (bytes.len() as u64) < file_len(level) {
+        FileFault::Truncated.number()
+    } else {
+        FileFault::Trailing.number()
+    }
+}
+
+/// Whether the file of some level has as many bytes.
+fn is_long_as_some(bytes: &[u8]) -> bool
+    ensures some { IsTrue result → (n : ℕ) × (n ≤ 24) × IsSized n bytes.now }
+    ensures none { IsFalse result → (n : ℕ) → n ≤ 24 → IsSized n bytes.now → ⊥ }
+{
+    for level in 0..HIGHEST_LEVEL + 1 {
+        if is_sized(bytes, level) {
+            return true;
         }
     }
-    true
+    false
+}
+
+/// Why the first file up to this level's has not as many bytes as it should, or 0 if each has.
+fn first_misfit(files: &[&[u8]], highest: u8) -> u8
+    requires low { highest ≤ 24 }
+    requires there { highest < length files.now }
+    ensures sized { (result ≡ 0) ↔ AreSized (map (λ file. file.now) files.now) (highest + 1) }
+    ensures first { result ≢ 0 → (level : ℕ) × (level ≤ highest) × IsFirstMisfit (map (λ file. file.now) files.now) level result }
+{
+    for level in 0..highest + 1 {
+        let file = file_at(files, level);
+        if !is_sized(file, level) {
+            return misfit(file, level);
+        }
+    }
+    0
 }
 
 /// The file at this level's place.

@@ -126,10 +126,29 @@ fn wrong_files_are_refused(rt: HostRuntime) -> Result<(), Fail> {
     expect_refused(&rt, &old, FolderFault::Old { level: 1 })
 }
 
+/// Level 1 has 12 boards, so a limit of 13 is none.
+#[test]
+fn a_limit_above_all_boards_is_refused(rt: HostRuntime) -> Result<(), Fail> {
+    let right = right_file(rt.alloc(), 1)?;
+    let entry = right_shelf(rt.alloc())?.entry(&Board::parse(OWN.as_bytes())?)?;
+    lay_all(&rt, "level_01.awdb", &changed(rt.alloc(), &right, 19, 12)?)?;
+    expect_equal(&rt, "a limit of 12", found(&rt, OWN)?, Ok(entry));
+    let fault = VerifyFault::Refused {
+        rank: 0,
+        rule: Rule::V7,
+    };
+    let wrong = FolderFault::Verify { level: 1, fault };
+    expect_refused(&rt, &changed(rt.alloc(), &right, 19, 13)?, wrong)?;
+    expect_refused(&rt, &changed(rt.alloc(), &right, 16, 255)?, wrong)
+}
+
 #[test]
 fn files_of_another_level_or_length_are_refused(rt: HostRuntime) -> Result<(), Fail> {
-    let other = right_file(rt.alloc(), 2)?;
-    expect_fault(&rt, &other, FileFault::LevelOutOfRange)?;
+    let mut other = right_file(rt.alloc(), 2)?;
+    let fault = VerifyFault::WrongLevel;
+    expect_refused(&rt, &other, FolderFault::Verify { level: 1, fault })?;
+    other.truncate(551);
+    expect_fault(&rt, &other, FileFault::Truncated)?;
     let mut file = right_file(rt.alloc(), 1)?;
     file.push(0)?;
     expect_fault(&rt, &file, FileFault::Trailing)?;
@@ -144,20 +163,15 @@ fn a_plan_that_is_not_legal_is_refused(rt: HostRuntime) -> Result<(), Fail> {
     let board = Board::parse(OWN.as_bytes())?;
     let file = changed(rt.alloc(), &right_file(rt.alloc(), 1)?, 89, 4)?;
     lay_all(&rt, "level_01.awdb", &file)?;
-    let line = line_in(rt.alloc(), &mut host(&rt, PLACES), board).err();
-    let fault = FileFault::EntryForm;
-    let refused = Some(FolderFault::File { level: 1, fault });
-    expect_equal(&rt, "a line", line, refused);
-    let broken = VerifyFault::Refused {
+    let fault = VerifyFault::Refused {
         rank: 6,
         rule: Rule::V3,
     };
+    let refused = Some(FolderFault::Verify { level: 1, fault });
+    let line = line_in(rt.alloc(), &mut host(&rt, PLACES), board).err();
+    expect_equal(&rt, "a line", line, refused);
     let longest = longest_in(rt.alloc(), &mut host(&rt, PLACES), board).err();
-    let fault = FolderFault::Verify {
-        level: 1,
-        fault: broken,
-    };
-    expect_equal(&rt, "a longest line", longest, Some(fault));
+    expect_equal(&rt, "a longest line", longest, refused);
     Ok(())
 }
 

@@ -1,6 +1,6 @@
 //! What a folder of level files is asked for.
 
-ghost use Rattle.std.specs.Prelude.{◌≡◌, ◌≤◌, ℕ, List, [], Option, Some, IfSome, IfOk, OnOk, OnErr};
+ghost use Rattle.std.specs.Prelude.{◌≡◌, ◌≤◌, ℕ, List, [], Option, Some, None, Ok, IfSome, IfOk, IsSome, OnOk, OnErr, false, true};
 ghost use Rattle.awari_table.specs.declared.TheConstants.{HIGHEST_LEVEL};
 ghost use Rattle.awari_streams.specs.Counted.{Grew};
 ghost use Rattle.awari_folder.specs.Contents.{Same, Opens, Reads, IsLeftOf, IsWhole, Counts};
@@ -42,6 +42,20 @@ pub trait Folder {
         ensures opened { IfOk result (λ opened. Opens Self.File.remaining ((state self.old).stands level) opened) }
         ensures unchanged { Unchanged (state self.old) (state self.new) }
         ensures refused { Counts result (state self.old).refusals (state self.new).refusals };
+
+    /// Whether a level has a file, which need not be one that opens.
+    fn has_file(&mut self, level: u8) -> Result<bool, Refusal>
+        requires { level ≤ HIGHEST_LEVEL }
+        ensures some { result ≡ Ok true → IfSome ((state self.old).stands level) (λ name. IsSome name) }
+        ensures none { result ≡ Ok false → IfSome ((state self.old).stands level) (λ name. name ≡ None) }
+        ensures unchanged { Unchanged (state self.old) (state self.new) }
+        ensures refused { Counts result (state self.old).refusals (state self.new).refusals }
+    {
+        match self.open(level) {
+            Ok(file) => Ok(file.is_some()),
+            Err(refusal) => Err(refusal),
+        }
+    }
 
     /// How many bytes the file of a level has, if there is one. If that many are there from `place` on,
     /// `room` is filled with them; otherwise nothing is said of `room`.

@@ -279,6 +279,24 @@ impl<R: Files<File = File>> Folder for HostFolder<'_, R> {
         }
     }
 
+    // What is no file, as a folder or a pipe, is none of a level.
+    fn has_file(&mut self, level: u8) -> Result<bool, Refusal> {
+        let Ok(path) = path_of(self.alloc, self.path, level) else {
+            return Err(self.lack());
+        };
+        match fs::metadata(self.files, path.as_path()) {
+            Ok(found) => Ok(found.is_file()),
+            Err(error) if error.kind() == ErrorKind::NotFound => Ok(false),
+            Err(error) => {
+                if let Ok(words) = self.words() {
+                    words.keep(Named::Level(level), error);
+                }
+                self.refused = self.refused.saturating_add(1);
+                Err(Refusal::Refused)
+            }
+        }
+    }
+
     fn read_at(&mut self, level: u8, place: u64, room: &mut [u8]) -> Result<Option<u64>, Refusal> {
         let Ok(path) = path_of(self.alloc, self.path, level) else {
             return Err(self.lack());

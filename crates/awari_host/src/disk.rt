@@ -63,13 +63,20 @@ impl<'a, T: Files<File = File>> Host<'a> for Disk<'a, T> {
     ) -> HostFolder<'a, T> {
         let folder = HostFolder::new(self.files, self.alloc, Path::new(name));
         match purpose {
-            Purpose::Read => tell_of_levels(self.files, name, &folder, errors),
+            Purpose::Read => tell_of_levels(self, name, &folder, errors),
             Purpose::Write => {
                 tell_if_no_folder(self.files, name, errors);
             }
             Purpose::Build => {}
         }
         folder
+    }
+
+    fn is_there(&self, name: &'a str) -> bool {
+        match fs::metadata(self.files, Path::new(name)) {
+            Ok(found) => found.is_dir(),
+            Err(_) => false,
+        }
     }
 
     fn levels_in(&self, folder: &HostFolder<'a, T>) -> u8 {
@@ -96,7 +103,7 @@ impl<'a, T: Files<File = File>> Host<'a> for Disk<'a, T> {
             // There is nowhere to say that this could not be written.
             print(
                 errors,
-                &format_args!("{name}: levels 0 to {top} are there already"),
+                &format_args!("{name}: files of levels 0 to {top} are there already"),
             );
             return Ok(());
         }
@@ -104,7 +111,12 @@ impl<'a, T: Files<File = File>> Host<'a> for Disk<'a, T> {
             Ok(()) => return try_writing(folder, level),
             Err(LockFault::Memory) => return Err(FolderFault::Memory),
             Err(LockFault::Held) => {
-                print(errors, &format_args!("{name}: locked by another build"));
+                print(
+                    errors,
+                    &format_args!(
+                        "{name}: another build has locked it, so it does not open for this one"
+                    ),
+                );
             }
             Err(LockFault::Refused) => {
                 tell_if_no_folder(self.files, name, errors);
@@ -163,12 +175,12 @@ fn try_writing<T: Files<File = File>>(
 
 /// Tells the error stream if there is no folder of this name, or which of its levels are not read.
 fn tell_of_levels<T: Files<File = File>, E: Write>(
-    files: &T,
+    disk: &Disk<'_, T>,
     name: &str,
     folder: &HostFolder<'_, T>,
     errors: &mut E,
 ) {
-    if tell_if_no_folder(files, name, errors) {
+    if tell_if_no_folder(disk.files, name, errors) {
         return;
     }
     let files = files_of(folder);
@@ -176,8 +188,16 @@ fn tell_of_levels<T: Files<File = File>, E: Write>(
     // There is nowhere to say that this could not be written.
     if let Some(gap) = gap_above(missing, files) {
         print(errors, &format_args!("{name}: {gap}"));
-    } else if missing == 0 {
+    } else if missing == 0 && is_searched(disk, name) {
         print(errors, &format_args!("{name}: no level is there"));
+    }
+}
+
+/// Whether names can be looked up in the folder of this name. If not, it can't be told which levels are there.
+fn is_searched<T: Files<File = File>>(disk: &Disk<'_, T>, name: &str) -> bool {
+    match format!(in disk.alloc; "{name}/.") {
+        Ok(itself) => fs::metadata(disk.files, Path::new(itself.as_str())).is_ok(),
+        Err(_) => false,
     }
 }
 

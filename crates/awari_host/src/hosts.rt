@@ -42,6 +42,9 @@ pub trait Host<'a> {
         ensures opened { (Self.Folder.state result).stands ≡ holds self.old name.now }
         ensures others { OthersStay name.now (holds self.old) (holds self.new) };
 
+    /// Whether a folder of this name is there, as far as the host can tell.
+    fn is_there(&self, name: &'a str) -> bool;
+
     /// How many levels from 0 on have a file in an open folder, as far as the host can tell.
     fn levels_in(&self, folder: &Self::Folder) -> u8;
 

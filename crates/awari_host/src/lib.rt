@@ -10,16 +10,20 @@
 //!         host: &mut H,
 //!         folder: Option<&'a str>,
 //!         errors: &mut E,
-//!     ) -> u8
+//!     ) -> Result<u8, FolderFault>
 //!         ensures { AllStay H.keeps (H.holds host.old) (H.holds host.new) }
 //!     {
 //!         let Some(name) = folder else {
-//!             return 0;
+//!             return Ok(0);
 //!         };
 //!         let folder = host.open(name, Purpose::Write, errors);
 //!         let first = host.levels_in(&folder);
 //!         host.close(name, folder);
-//!         first
+//!         if host.is_there(name) {
+//!             Ok(first)
+//!         } else {
+//!             Err(FolderFault::Open { level: 0 })
+//!         }
 //!     }
 #![tactic(auto)]
 

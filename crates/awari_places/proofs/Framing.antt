@@ -18,6 +18,9 @@ use Rattle.awari_file.proofs.FileLaws.{header-is}
 use Rattle.awari_folder.specs.declared.faults.FolderFault.{FolderFault}
 use Rattle.awari_folder.specs.declared.faults.FolderFault.TheVariants.{Below, File, Open, Verify, Memory, Occupied, Old}
 use Rattle.awari_folder.specs.Contents.{IsOfFile, Reads}
+use Rattle.awari_rank.specs.Rank.{size_of}
+use Rattle.awari_verify.specs.declared.rules.Rule.TheVariants.{V7}
+use Rattle.awari_verify.specs.declared.verdicts.VerifyFault.TheVariants.{Refused, WrongLevel}
 use Rattle.awari_places.specs.declared.opening.Opened.{Opened}
 use Rattle.awari_places.specs.Opening.{AreFramed, IsFrame, IsFrameFault, IsFramed, IsOpenFault, framed_by, framed_of, framed_in}
 use Rattle.awari_places.specs.Places.{Says, image_in, image_named, images_in, limit_in, limit_or_none}
@@ -83,9 +86,10 @@ limit_framed : (level size limit : ℕ) (r : Result (Header × List ℕ) FileFau
 limit_framed level size limit (Err fault) h = absurd cc
 limit_framed level size limit (Ok found) h =
     let a = after_guard (found.0.version == 1) (Old level) _ limit h in
-    let b = before_guard (found.0.level == level) (File level faults.LevelOutOfRange) _ limit a in
-    let d = after_guard (nat_lt size (file_len level)) (File level faults.Truncated) _ limit b in
-    let e = after_guard (nat_lt (file_len level) size) (File level faults.Trailing) _ limit d in
+    let b = after_guard (nat_lt size (file_len found.0.level)) (File level faults.Truncated) _ limit a in
+    let d = after_guard (nat_lt (file_len found.0.level) size) (File level faults.Trailing) _ limit b in
+    let e = before_guard (found.0.level == level) (Verify level WrongLevel) _ limit d in
+    let f = after_guard (nat_lt (size_of level) found.0.limit) (Verify level (Refused 0 V7)) _ limit e in
     cc
 
 pub image_limit : (names : ℕ → Option (List ℕ)) (level limit : ℕ) → IsFrame level (names level) (Some limit) → (image_named names level).limit ≡ limit

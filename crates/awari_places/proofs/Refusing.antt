@@ -19,6 +19,7 @@ use Rattle.awari_table.specs.Images.{table_of}
 use Rattle.awari_verify.specs.FirstFailure.{BreaksFirst}
 use Rattle.awari_verify.specs.Sights.{Sees}
 use Rattle.awari_verify.specs.declared.rules.Rule.{Rule}
+use Rattle.awari_verify.specs.declared.rules.Rule.TheVariants.{V3, V6}
 use Rattle.awari_verify.specs.declared.rules.Seen.{Seen}
 use Rattle.awari_verify.specs.declared.verdicts.VerifyFault.TheVariants.{Refused}
 use Rattle.awari_table.specs.declared.images.Entry.{Entry}
@@ -112,7 +113,7 @@ judge_before old new levels fault same (inl is) = inl (look_before old new level
 judge_before old new levels fault same (inr is) = inr (breach_before old new levels fault same is)
 
 pub unsaid_before : (old new : Stands) (levels : ℕ) (fault : FolderFault) → Same old new → IsUnsaid levels new fault → IsUnsaid levels old fault
-unsaid_before old new levels fault same is = record { level = is.level; known = is.known; told = is.told; unsaid = λ images says. is.unsaid images (still_says old new levels images same says) }
+unsaid_before old new levels fault same is = record { board = is.board; known = is.known; told = is.told; unsaid = λ images says. is.unsaid images (still_says old new levels images same says) }
 
 pub longest_before : (old new : Stands) (levels : ℕ) (fault : FolderFault) → Same old new → IsLongestFault levels new fault → IsLongestFault levels old fault
 longest_before old new levels fault same (inl is) = inl (judge_before old new levels fault same is)
@@ -125,7 +126,7 @@ err_along (Err f) P Q go h = go f h
 
 -- a plan that is not legal
 pub plan_fault : (stands : Stands) (levels : ℕ) (board : List ℕ) (plan : Option ℕ) (r : Result ℕ FolderFault) → sum board < levels → OnErr r (IsBoard board)
-    → IfErr r (λ fault. fault ≡ File (sum board) faults.EntryForm) → OnErr r (IsNotLegal board plan) → ((images : List Image) → Says stands levels images → (table_of images).plan board ≡ plan)
+    → IfErr r (λ fault. fault ≡ Verify (sum board) (Refused (rank_of board) V3)) → OnErr r (IsNotLegal board plan) → ((images : List Image) → Says stands levels images → (table_of images).plan board ≡ plan)
     → IfErr r (IsLineFault levels stands)
 plan_fault stands levels board plan (Ok x) low whole told illegal is = tt
 plan_fault stands levels board plan (Err f) low whole told illegal is = inr (record {
@@ -173,7 +174,7 @@ pub undue : (stands : Stands) (levels : ℕ) (p : List ℕ) (seen : Seen) (pit :
     → (pos 0 <ℤ seen.entry.value → pit ≡ seen.entry.plan)
     → (seen.entry.value <ℤ pos 0 → (t : Table) (p : List ℕ) → Sees t p seen → MovesNoLater t p seen.entry.dist → IfSome pit (HoldsLongest t p))
     → (seen.entry.value <ℤ pos 0 → (t : Table) (p : List ℕ) → Sees t p seen → MovesIn t p seen.entry.dist → IsSome pit)
-    → IfErr r (λ fault. fault ≡ File (sum p) faults.EntryForm) → OnErr r (IsNotLegal p pit) → IfErr r (IsDueFault levels stands p)
+    → IfErr r (λ fault. fault ≡ Verify (sum p) (Refused (rank_of p) V6)) → OnErr r (IsNotLegal p pit) → IfErr r (IsDueFault levels stands p)
 undue stands levels p seen pit (Ok x) sees right favoured other some told illegal = tt
 undue stands levels p seen pit (Err f) sees right favoured other some told illegal = inr (record {
   told = told;
@@ -188,7 +189,7 @@ pub due_longest : (old new : Stands) (levels : ℕ) (board : List ℕ) (fault : 
     → ((images : List Image) → Says old levels images → 1 ≤ (table_of images).dist board) → IsDueFault levels new board fault → IsLongestFault levels old fault
 due_longest old new levels board fault same low far (inl is) = inl (judge_before old new levels fault same is)
 due_longest old new levels board fault same low far (inr is) =
-    inr (record { level = sum board; known = low; told = is.told; unsaid = λ images says. is.undue images (still_says old new levels images same says) (far images says) })
+    inr (record { board = board; known = low; told = is.told; unsaid = λ images says. is.undue images (still_says old new levels images same says) (far images says) })
 
 -- a look-up is refused along either line
 pub plies_look : (longest : Bool) (stands : Stands) (levels : ℕ) (fault : FolderFault) → IsLookFault levels stands fault → IsPliesFault longest levels stands fault

@@ -13,6 +13,7 @@ use Rattle.awari_table.specs.Images.{table_of}
 use Rattle.awari_table.specs.declared.images.Image.{Image}
 use Rattle.awari_verify.specs.FirstFailure.{BreaksFirst}
 use Rattle.awari_verify.specs.declared.rules.Rule.{Rule}
+use Rattle.awari_verify.specs.declared.rules.Rule.TheVariants.{V3, V6}
 use Rattle.awari_verify.specs.declared.verdicts.VerifyFault.TheVariants.{Refused}
 use Rattle.awari_places.specs.Opening.{IsFrameFault}
 use Rattle.awari_places.specs.Places.{Says}
@@ -66,12 +67,12 @@ IsLimitFault level name fault = IsFrameFault level name fault ⊎ ((name ≡ Non
 abbrev pub IsNotLegal : List ℕ → Option ℕ → Type 0
 IsNotLegal p pit = IfSome pit (λ x. IsLegal p x → ⊥)
 
--- It is 81 with 65 at some board of these levels whose plan is not legal, by what the files say.
+-- It is 83 with V3 at some board of these levels whose plan is not legal, by what the files say.
 pub record IsPlanFault (levels : ℕ) (stands : ℕ → Option (Option (List ℕ))) (fault : FolderFault) : Type 0 where
   pub board : List ℕ
   pub is_board : IsBoard board
   pub known : sum board < levels
-  pub told : fault ≡ File (sum board) faults.EntryForm
+  pub told : fault ≡ Verify (sum board) (Refused (rank_of board) V3)
   pub illegal : (images : List Image) → Says stands levels images → IsNotLegal board ((table_of images).plan board)
 
 -- the refusal of a line that follows the plans
@@ -91,20 +92,20 @@ pub record IsBreachFault (levels : ℕ) (stands : ℕ → Option (Option (List �
 abbrev pub IsJudgeFault : ℕ → (ℕ → Option (Option (List ℕ))) → FolderFault → Type 0
 IsJudgeFault levels stands fault = IsLookFault levels stands fault ⊎ IsBreachFault levels stands fault
 
--- It is 81 with 65 at this board, which by what the files say is left by no ply of the line.
+-- It is 83 with V6 at this board, which by what the files say is left by no ply of the line.
 pub record IsUndue (levels : ℕ) (stands : ℕ → Option (Option (List ℕ))) (board : List ℕ) (fault : FolderFault) : Type 0 where
-  pub told : fault ≡ File (sum board) faults.EntryForm
+  pub told : fault ≡ Verify (sum board) (Refused (rank_of board) V6)
   pub undue : (images : List Image) → Says stands levels images → 1 ≤ (table_of images).dist board → ⊥
 
 -- the refusal of a board from which one ply of the line is played
 abbrev pub IsDueFault : ℕ → (ℕ → Option (Option (List ℕ))) → List ℕ → FolderFault → Type 0
 IsDueFault levels stands board fault = IsJudgeFault levels stands fault ⊎ IsUndue levels stands board fault
 
--- It is 81 with 65 of one of these levels, and it is not known what the files say.
+-- It is 83 with V6 at a board of one of these levels, and it is not known what the files say.
 pub record IsUnsaid (levels : ℕ) (stands : ℕ → Option (Option (List ℕ))) (fault : FolderFault) : Type 0 where
-  pub level : ℕ
-  pub known : level < levels
-  pub told : fault ≡ File level faults.EntryForm
+  pub board : List ℕ
+  pub known : sum board < levels
+  pub told : fault ≡ Verify (sum board) (Refused (rank_of board) V6)
   pub unsaid : (images : List Image) → Says stands levels images → ⊥
 
 -- the refusal of a line in which one side holds out

@@ -7,17 +7,29 @@ use Rattle.awari_file.specs.declared.faults.FileFault.TheVariants as faults
 use Rattle.awari_file.specs.FileText.{file_len}
 use Rattle.awari_file.specs.Reading.{header_at}
 use Rattle.awari_folder.specs.declared.faults.FolderFault.{FolderFault}
-use Rattle.awari_folder.specs.declared.faults.FolderFault.TheVariants.{File, Open, Memory, Old}
+use Rattle.awari_folder.specs.declared.faults.FolderFault.TheVariants.{File, Open, Memory, Old, Verify}
+use Rattle.awari_rank.specs.Rank.{size_of}
+use Rattle.awari_verify.specs.declared.rules.Rule.TheVariants.{V7}
+use Rattle.awari_verify.specs.declared.verdicts.VerifyFault.TheVariants.{Refused, WrongLevel}
 use Rattle.awari_places.specs.declared.opening.Opened.{Opened}
 use Rattle.awari_places.specs.Places.{images_in}
 
--- What is answered of a level's file of this many bytes by its header: the limit that it says, or the first fault.
+-- The limit that the header of a level's file says. It is 83 with 20 if the header is that of another level, and 83 with V7 if the limit
+-- is above the number of the level's boards, which no distance is.
+abbrev pub limit_by : ℕ → Header → Result ℕ FolderFault
+limit_by level header =
+    if header.level == level then (if nat_lt (size_of level) header.limit then Err (Verify level (Refused 0 V7)) else Ok header.limit)
+    else Err (Verify level WrongLevel)
+
+-- What is answered of a level's file of this many bytes by its header: the limit that it says, or the first fault. The length is judged by
+-- the level that the header says.
 abbrev pub framed_by : ℕ → ℕ → Result (Header × List ℕ) FileFault → Result ℕ FolderFault
 framed_by level size (Err fault) = Err (File level fault)
 framed_by level size (Ok found) =
     if found.0.version == 1 then Err (Old level)
-    else if found.0.level == level then (if nat_lt size (file_len level) then Err (File level faults.Truncated) else if nat_lt (file_len level) size then Err (File level faults.Trailing) else Ok found.0.limit)
-    else Err (File level faults.LevelOutOfRange)
+    else if nat_lt size (file_len found.0.level) then Err (File level faults.Truncated)
+    else if nat_lt (file_len found.0.level) size then Err (File level faults.Trailing)
+    else limit_by level found.0
 
 -- the same of its first bytes, where it has those of a header
 abbrev pub framed_of : ℕ → ℕ → List ℕ → Result ℕ FolderFault

@@ -44,7 +44,7 @@ pub(crate) fn judged<F: Folder>(
 }
 
 /// The refusal of a board that breaks a rule.
-fn broken(board: &Board, rule: Rule) -> FolderFault
+pub(crate) fn broken(board: &Board, rule: Rule) -> FolderFault
     requires { sum board.now ≤ HIGHEST_LEVEL }
     ensures board { IsBoard board.now }
     ensures told { result ≡ Verify (sum board.now) (Refused (rank_of board.now) rule) }

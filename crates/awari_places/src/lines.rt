@@ -1,31 +1,34 @@
 //! Play by the plans of both sides, as the files say them, up to the first outcome.
 
-ghost use Rattle.std.specs.Prelude.{◌≡◌, List, Some, IfErr, IfOk, OnErr, sum};
+ghost use Rattle.std.specs.Prelude.{◌≡◌, ◌≤◌, List, Some, IfErr, IfOk, OnErr, sum};
 ghost use Rattle.awari_board.specs.Rules.{IsBoard, IsLegal};
-ghost use Rattle.awari_file.specs.declared.faults.FileFault.TheVariants as file_fault;
-ghost use Rattle.awari_folder.specs.declared.faults.FolderFault.TheVariants.{File};
+ghost use Rattle.awari_folder.specs.declared.faults.FolderFault.TheVariants.{Verify};
 ghost use Rattle.awari_folder.specs.State.{Unchanged};
 ghost use Rattle.awari_game.specs.Plays.{IsPlay, Standing, start};
 ghost use Rattle.awari_play.specs.BestLine.{IsBestLine};
+ghost use Rattle.awari_rank.specs.Rank.{rank_of};
 ghost use Rattle.awari_table.specs.Images.{table_of};
+ghost use Rattle.awari_table.specs.declared.TheConstants.{HIGHEST_LEVEL};
 ghost use Rattle.awari_table.specs.declared.images.Image.{Image};
+ghost use Rattle.awari_verify.specs.declared.verdicts.VerifyFault.TheVariants.{Refused};
 ghost use Rattle.awari_places.specs.Faults.{IsLineFault, IsNotLegal};
 ghost use Rattle.awari_places.specs.Places.{IsLevelOf, Says};
 
 use crate::entries::entry;
+use crate::judging::broken;
 use crate::opening::Opened;
 use awari_board::Board;
-use awari_file::FileFault;
 use awari_folder::{Folder, FolderFault};
 use awari_game::Game;
 use awari_play::{Line, play_pit};
+use awari_verify::Rule;
 use std::alloc::Global;
 
 /// The play from a board in which both sides follow the plans that the files say, up to the first outcome
 /// by the greatest limit of the files. Condition: the board's level is one of those that
 /// [`open_levels`](crate::open_levels) found. It always returns, whatever the files say.
 ///
-/// It is refused as [`entry`](crate::entry) is, as 81 with 65 if a plan is not legal, and as 84 if memory
+/// It is refused as [`entry`](crate::entry) is, as 83 with V3 if a plan is not legal, and as 84 if memory
 /// runs out. It takes memory for the moves, a byte each, and for names.
 pub fn best_line<F: Folder>(
     alloc: Global,
@@ -77,22 +80,20 @@ fn plan<F: Folder>(folder: &mut F, levels: u8, board: &Board) -> Result<u8, Fold
     ensures fault { IfErr result (IsLineFault levels (F.state folder.old).stands) }
 {
     let entry = entry(folder, levels, board)?;
-    legal_pit(board, entry.plan)
+    legal_pit(board, entry.plan, Rule::V3)
 }
 
-/// The pit, if there is one that is legal on the board. It is refused as 81 with 65 if not.
-pub(crate) fn legal_pit(board: &Board, pit: Option<u8>) -> Result<u8, FolderFault>
+/// The pit, if there is one that is legal on the board. It is refused as 83 with this rule if not.
+pub(crate) fn legal_pit(board: &Board, pit: Option<u8>, rule: Rule) -> Result<u8, FolderFault>
+    requires { sum board.now ≤ HIGHEST_LEVEL }
     ensures pit { IfOk result (λ x. pit ≡ Some x) }
     ensures legal { IfOk result (IsLegal board.now) }
     ensures board { OnErr result (IsBoard board.now) }
-    ensures told { IfErr result (λ fault. fault ≡ File (sum board.now) file_fault.EntryForm) }
+    ensures told { IfErr result (λ fault. fault ≡ Verify (sum board.now) (Refused (rank_of board.now) rule)) }
     ensures illegal { OnErr result (IsNotLegal board.now pit) }
 {
     match pit {
         Some(pit) if board.legal(pit) => Ok(pit),
-        _ => Err(FolderFault::File {
-            level: board.stones(),
-            fault: FileFault::EntryForm,
-        }),
+        _ => Err(broken(board, rule)),
     }
 }

@@ -22,7 +22,7 @@ use awari_folder::{Folder, FolderFault};
 use awari_game::Game;
 use awari_play::play_pit;
 use awari_table::Reached;
-use awari_verify::Seen;
+use awari_verify::{Rule, Seen};
 use std::alloc::Global;
 
 /// The pits of the play from a board in which the side that it favours follows the plans that the files
@@ -84,7 +84,8 @@ fn due_pit<F: Folder>(folder: &mut F, levels: u8, board: &Board) -> Result<u8, F
     ensures fault { IfErr result (IsDueFault levels (F.state folder.old).stands board.now) }
 {
     let seen = judged(folder, levels, board)?;
-    legal_pit(board, pit_by(&seen))
+    // By files that stay as they are, there is a pit where the board's distance says so.
+    legal_pit(board, pit_by(&seen), Rule::V6)
 }
 
 /// The plan of a board that favours its mover, and the pit that holds out longest on one that does not.

@@ -6,11 +6,13 @@ ghost use Rattle.awari_folder.specs.Contents.{AreNames, IsOfFile};
 ghost use Rattle.awari_folder.specs.State.{OnlyReads, Unchanged};
 ghost use Rattle.awari_table.specs.declared.images.Image.{Image};
 ghost use Rattle.awari_places.specs.Faults.{IsLimitFault};
-ghost use Rattle.awari_places.specs.Opening.{AreFramed, IsFrame, IsFrameFault, IsOpenFault, framed_of};
+ghost use Rattle.awari_places.specs.Opening.{AreFramed, IsFrame, IsFrameFault, IsOpenFault, framed_of, limit_by};
 ghost use Rattle.awari_places.specs.Places.{Says};
 
-use awari_file::{FileFault, HEADER_LEN, OLD_VERSION, file_len, header_of};
+use awari_file::{FileFault, HEADER_LEN, Header, OLD_VERSION, file_len, header_of};
 use awari_folder::{Folder, FolderFault, Refusal};
+use awari_rank::size;
+use awari_verify::{Rule, VerifyFault};
 
 /// The levels of a folder whose files are there.
 #[derive(Clone, Copy, Debug, PartialEq, Eq)]
@@ -28,8 +30,9 @@ pub struct Opened {
 /// The files are taken in turn, and each is refused as the first of these that is due:
 ///
 /// - 82: it is there and does not open.
-/// - 81: it does not begin as the file of a level, is that of another level, or has another length.
+/// - 81: it does not begin as the file of a level, or has another length.
 /// - 86: it is of version 1.
+/// - 83: it is the file of another level, or its limit is above the number of the level's boards.
 ///
 /// It is refused as 84 if there was no room for a name.
 pub fn open_levels<F: Folder>(folder: &mut F, most: u8) -> Result<Opened, FolderFault>
@@ -120,15 +123,33 @@ fn judge(level: u8, size: u64, front: &[u8]) -> Result<u32, FolderFault>
     if header.version == OLD_VERSION {
         return Err(FolderFault::Old { level });
     }
-    if header.level != level {
-        return file(FileFault::LevelOutOfRange);
-    }
-    let whole = file_len(level);
+    let whole = file_len(header.level);
     if size < whole {
         return file(FileFault::Truncated);
     }
     if size > whole {
         return file(FileFault::Trailing);
+    }
+    limit_by(level, header)
+}
+
+/// The limit that this header of a level's file says. It is refused as 83: with 20 if the header is that of
+/// another level, and with V7 if the limit is above the number of boards, which no distance is.
+fn limit_by(level: u8, header: Header) -> Result<u32, FolderFault>
+    requires { level ≤ HIGHEST_LEVEL }
+    ensures exact { result ≡ limit_by level header }
+    ensures of_file { IfErr result IsOfFile }
+{
+    if header.level != level {
+        let fault = VerifyFault::WrongLevel;
+        return Err(FolderFault::Verify { level, fault });
+    }
+    if header.limit > size(level) {
+        let fault = VerifyFault::Refused {
+            rank: 0,
+            rule: Rule::V7,
+        };
+        return Err(FolderFault::Verify { level, fault });
     }
     Ok(header.limit)
 }

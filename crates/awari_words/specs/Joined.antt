@@ -1,5 +1,5 @@
 -- Words in which a value that begins with a hyphen is joined to the option before it: `--value -3..2` is `--value=-3..2`, and
--- `--sort -value` is `--sort=-value`.
+-- `--sort -value` is `--sort=-value`. A word `--` ends the options.
 use Rattle.std.specs.Prelude.{ℕ, Bool, false, ◌&&◌, ◌||◌, ◌==◌, if◌then◌else◌, List, [], ◌∷◌, ◌++◌, codes, nat_le}
 use Rattle.std.specs.Str.{bytes_eq}
 
@@ -24,8 +24,11 @@ is_descending (c ∷ (d ∷ rest)) = c == 45 && (nat_le 97 d && nat_le d 122)
 abbrev pub is_joined : List ℕ → List ℕ → Bool
 is_joined word value = if bytes_eq word (codes "--sort") then is_descending value else takes_span word && is_below_zero value
 
--- the words in turn, each with its value
+-- the words in turn, each with its value; those from a word `--` on are as they are
 unfoldable pub joined : List (List ℕ) → List (List ℕ)
 joined [] = []
 joined (word ∷ []) = word ∷ []
-joined (word ∷ (next ∷ rest)) = if is_joined word next then (word ++ (codes "=" ++ next)) ∷ joined rest else word ∷ joined (next ∷ rest)
+joined (word ∷ (next ∷ rest)) =
+    if bytes_eq word (codes "--") then word ∷ (next ∷ rest)
+    else if is_joined word next then (word ++ (codes "=" ++ next)) ∷ joined rest
+    else word ∷ joined (next ∷ rest)

@@ -1,5 +1,6 @@
 -- Which request the words make: that of the command that they name, with the values that they give to each of its names.
-use Rattle.std.specs.Prelude.{◌≡◌, ◌≢◌, ◌⊎◌, ℕ, ◌<◌, ◌^◌, Bool, true, false, List, Some, None, codes, Option, option_map}
+use Rattle.std.specs.Prelude.{◌≡◌, ◌≢◌, ◌⊎◌, ℕ, ◌<◌, ◌^◌, Bool, true, false, List, Some, None, codes, length, slice_index, Option, option_map, EachIndex, IfSome, IsSomeAnd}
+use Rattle.std.specs.Char.{is_ascii_hexdigit}
 use Rattle.std.specs.Str.Parse.{IsNumeral, digits_value, without_leading_plus}
 use Rattle.clap.specs.Matches.{found_of}
 use Rattle.clap.specs.Walk.{Row, all_of, first_of, one_of, rows_of, texts}
@@ -82,10 +83,18 @@ IsNoBoardsQuery given =
     SpellsNone 8 given (codes "LEVEL") ⊎ SpellsNone 32 given (codes "every") ⊎ SpellsNone 32 given (codes "random") ⊎ SpellsNone 32 given (codes "seed")
     ⊎ SpellsNone 32 given (codes "most")
 
+-- 64 hexadecimal digits, in either case
+abbrev pub IsDigest : List ℕ → Type 0
+IsDigest text = (length text ≡ 64) × EachIndex text (λ k. is_ascii_hexdigit (slice_index text k) ≡ true)
+
+-- a digest is given that is none
+abbrev pub GivesNoDigest : List Row → Type 0
+GivesNoDigest given = IsSomeAnd (first_of (codes "digest") given) (λ text. IsDigest text → ⊥)
+
 -- The question is that of the command's name, with the values that were given for each of its names.
 abbrev pub IsQuestionOf : List ℕ → List Row → Question → Type 0
 IsQuestionOf name given (Verify q) = (name ≡ codes "verify") × SpellsOr given (codes "levels") q.levels
-    × (option_map (λ t. t.now) q.digest ≡ first_of (codes "digest") given) × IsFlagOf given (codes "progress") q.progress
+    × (option_map (λ t. t.now) q.digest ≡ first_of (codes "digest") given) × IfSome q.digest (λ t. IsDigest t.now) × IsFlagOf given (codes "progress") q.progress
 IsQuestionOf name given (Text q) = (name ≡ codes "text") × SpellsOr given (codes "LEVEL") q.level × IsFlagOf given (codes "boards") q.boards
 IsQuestionOf name given (Ask q) = (name ≡ codes "ask") × Gives given (codes "BOARD") q.board.now × IsFlagOf given (codes "json") q.json
     × IsFlagOf given (codes "unverified") q.unverified
@@ -115,13 +124,13 @@ IsRequestOf name given (Board level rank) = (name ≡ codes "board") × Spells g
 IsRequestOf name given (Plays board plies) = (name ≡ codes "plays") × Gives given (codes "BOARD") board.now × Spells given (codes "PLIES") plies
 IsRequestOf name given (Read folder question) = Gives given (codes "FOLDER") folder.now × IsQuestionOf name given question
 
--- The name is no command's, or a value that its command needs is not there.
+-- The name is no command's, or a value that its command needs is not there, or a digest is none.
 pub record IsNoRequest (name : List ℕ) (given : List Row) : Type 0 where
   pub check : name ≡ codes "check" → ⊥
   pub moved : name ≡ codes "move" → Lacks given (codes "BOARD") ⊎ SpellsNone 8 given (codes "PIT")
   pub judge : name ≡ codes "judge" → Lacks given (codes "BOARD") ⊎ SpellsNone 32 given (codes "LIMIT")
   pub build : name ≡ codes "build" → SpellsNone 8 given (codes "TOP") ⊎ IsNoPace given
-  pub verify : name ≡ codes "verify" → Lacks given (codes "FOLDER")
+  pub verify : name ≡ codes "verify" → Lacks given (codes "FOLDER") ⊎ GivesNoDigest given
   pub text : name ≡ codes "text" → Lacks given (codes "FOLDER")
   pub migrate : name ≡ codes "migrate" → Lacks given (codes "FROM") ⊎ Lacks given (codes "TO")
   pub ask : name ≡ codes "ask" → Lacks given (codes "FOLDER") ⊎ Lacks given (codes "BOARD")

@@ -1,6 +1,7 @@
 //! Values that begin with a hyphen, joined to the option that takes them.
 
-ghost use Rattle.std.specs.Prelude.{◌≡◌, ◌≤◌, ◌∷◌, ◌++◌, IfOk, codes, length, map};
+ghost use Rattle.std.specs.Prelude.{◌≡◌, ◌≤◌, ◌∷◌, ◌++◌, IfOk, codes, false, length, map};
+ghost use Rattle.std.specs.Str.{bytes_eq};
 ghost use Rattle.std.specs.String.{string_bytes};
 ghost use Rattle.awari_words.specs.Joined.{is_below_zero, is_joined, is_descending, joined, takes_span};
 
@@ -9,16 +10,35 @@ use std::convert::AsStr;
 
 /// The words, with each value that begins with a hyphen joined by `=` to the option before it: a span below
 /// zero, as `--value=-3..2` of `--value` and `-3..2`, or an order, as `--sort=-value` of `--sort` and
-/// `-value`. For `clap` takes a word that begins with a hyphen for an option. It takes memory for the words.
+/// `-value`. For `clap` takes a word that begins with a hyphen for an option. From a word `--` on, which ends
+/// the options, no word is joined. It takes memory for the words.
 pub fn joined<S: AsStr>(alloc: Global, words: &[S]) -> Result<Vec<String>, AllocError>
     ensures { IfOk result (λ all. map string_bytes all.items ≡ joined (map S.text words.now)) }
 {
     let mut all = Vec::new(alloc);
     let mut rest = words;
     while let [word, after @ ..] = rest {
+        if word.as_str() == "--" {
+            return with_words(alloc, all, rest);
+        }
         let (text, others) = next_word(alloc, word.as_str(), after)?;
         all.push(text)?;
         rest = others;
+    }
+    Ok(all)
+}
+
+/// These words, and behind them others as they are.
+fn with_words<S: AsStr>(
+    alloc: Global,
+    words: Vec<String>,
+    others: &[S],
+) -> Result<Vec<String>, AllocError>
+    ensures { IfOk result (λ all. map string_bytes all.items ≡ map string_bytes words.items ++ map S.text others.now) }
+{
+    let mut all = words;
+    for word in others {
+        all.push(String::from_str(alloc, word.as_str())?)?;
     }
     Ok(all)
 }
@@ -29,6 +49,7 @@ fn next_word<'w, S: AsStr>(
     word: &str,
     after: &'w [S],
 ) -> Result<(String, &'w [S]), AllocError>
+    requires { bytes_eq word.now (codes "--") ≡ false }
     ensures joined { IfOk result (λ next. string_bytes next.0 ∷ joined (map S.text next.1.now) ≡ joined (word.now ∷ map S.text after.now)) }
     ensures fewer { IfOk result (λ next. length next.1.now ≤ length after.now) }
 {

@@ -1,14 +1,16 @@
 //! The words that the program understands.
 
-ghost use Rattle.std.specs.Prelude.{◌≡◌, ◌⊎◌, IfOk, IfSome, IsNone, codes, map, option_map};
+ghost use Rattle.std.specs.Prelude.{◌≡◌, ◌⊎◌, ◌↔◌, IfOk, IfSome, IsNone, IsTrue, codes, map, option_map};
 ghost use Rattle.clap.specs.Kinds.{FailsBy};
 ghost use Rattle.clap.specs.Faults.{fault_of};
 ghost use Rattle.clap.specs.Simple.{subcommand_of, subcommand_rows_of};
 ghost use Rattle.clap.specs.Walk.{all_of, first_of, texts};
 ghost use Rattle.awari_words.specs.Commands.{awari_commands};
 ghost use Rattle.awari_words.specs.Requests.{
+  GivesNoDigest,
   IsAsked,
   IsBoardsQueryOf,
+  IsDigest,
   IsFlagOf,
   IsNoBoardsQuery,
   IsNoPace,
@@ -135,8 +137,9 @@ pub fn understand<'a, S: AsStr>(alloc: Global, words: &'a [S]) -> Result<ArgMatc
     Ok(matches)
 }
 
-/// What the words ask for that `clap` understood. `None` comes only if it lets words through that the
-/// program does not offer: no command of its own, or one without the values that it needs.
+/// What the words ask for that `clap` understood. `None` comes if a digest has not 64 digits, of which
+/// `clap` knows nothing. Else it comes only if `clap` lets words through that the program does not offer: no
+/// command of its own, or one without the values that it needs.
 pub fn request_of<'m, 'a: 'm>(matches: &'m ArgMatches<'a>) -> Option<Request<'m, 'a>>
     // The request is that of the command that the words name, with the values that they give.
     ensures { IsAsked (subcommand_rows_of matches.now) result }
@@ -209,16 +212,29 @@ fn build_request<'m, 'a: 'm>(given: &'m ArgMatches<'a>) -> Option<Request<'m, 'a
 
 fn verify_request<'m, 'a: 'm>(given: &'m ArgMatches<'a>) -> Option<Request<'m, 'a>>
     ensures asked { IfSome result (IsRequestOf (codes "verify") (values given.now)) }
-    ensures none { IsNone result → Lacks (values given.now) (codes "FOLDER") }
+    ensures none { IsNone result → Lacks (values given.now) (codes "FOLDER") ⊎ GivesNoDigest (values given.now) }
 {
+    let folder = text(given, "FOLDER")?;
+    let digest = text(given, "digest");
+    match digest {
+        Some(digits) if !is_digest(digits.as_bytes()) => return None,
+        _ => {}
+    }
     Some(Request::Read {
-        folder: text(given, "FOLDER")?,
+        folder,
         question: Question::Verify(VerifyQuery {
             levels: byte(given, "levels"),
-            digest: text(given, "digest"),
+            digest,
             progress: flag(given, "progress"),
         }),
     })
+}
+
+/// Whether the text is a digest: 64 hexadecimal digits, in either case.
+fn is_digest(text: &[u8]) -> bool
+    ensures { IsTrue result ↔ IsDigest text.now }
+{
+    text.len() == 64 && text.iter().all(|digit| digit.is_ascii_hexdigit())
 }
 
 fn text_request<'m, 'a: 'm>(given: &'m ArgMatches<'a>) -> Option<Request<'m, 'a>>
