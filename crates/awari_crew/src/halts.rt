@@ -7,7 +7,7 @@ use std::alloc::{AllocError, AllocFailed};
 pub enum Halt {
     /// There was no room.
     Memory,
-    /// What came, or came not, is not what a member may hear now, or another member left.
+    /// What came, or came not, is not what a member may hear now, another member left, or the crew is slow.
     Unfit,
 }
 

@@ -12,6 +12,7 @@ use awari_heard::Progress;
 use awari_lines::Ends;
 use awari_rank::size;
 use awari_waves::{Segment, numbered_segment, segments_in};
+use std::time::{Clock, Instant};
 
 /// What a member brings home: its ends of the rings, and its segments.
 #[derive(Drop)]
@@ -22,12 +23,17 @@ pub struct Home {
 
 /// The member scans its segments, works until all gains are closed, and comes home. None if the level is
 /// not wanted any more. Refused as a member is.
-pub(crate) fn stay<P: Progress>(mut member: Member, progress: &mut P) -> Result<Option<Home>, Halt>
+pub(crate) fn stay<C: Clock, P: Progress>(
+    clock: &C,
+    mut member: Member,
+    progress: &mut P,
+) -> Result<Option<Home>, Halt>
     ensures home { IfOk result (λ home. IfSome home (ComesHome member)) }
     ensures unwanted { result ≡ Ok None → P.stops }
 {
+    member.begun = Instant::now(clock).ok();
     member.segments = scanned(&member)?;
-    if !member.work(progress)? {
+    if !member.work(clock, progress)? {
         return Ok(None);
     }
     let Member { ends, segments, .. } = member;

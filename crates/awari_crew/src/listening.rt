@@ -10,10 +10,19 @@ use crate::letters::Head;
 use crate::members::Member;
 use crate::posting::look_for_letter;
 use std::hint::spin_loop;
-use std::thread::yield_now;
+use std::thread::{sleep, yield_now};
+use std::time::{Clock, Duration, Instant};
 
-/// How often a member looks for letters before it gives its processor away.
+/// How often a member looks for letters before it gives its processor away, and how often it does that
+/// before it sleeps.
 const SPINS: u64 = 64;
+
+const YIELDS: u64 = 256;
+
+/// A sleep lasts so many microseconds at first, and twice as long each time, but for this many times.
+const FIRST_SLEEP: u64 = 50;
+
+const DOUBLINGS: u64 = 4;
 
 /// The letters of a turn, as far as they came.
 #[derive(Clone, Copy)]
@@ -59,20 +68,21 @@ fn bit(place: usize) -> u32 {
 
 impl Member {
     /// Hears a letter of each other member as they come, and gives how all stand together. It looks
-    /// `patience` times at most, and gives its processor away in between. Refused as `Unfit` if a letter did
-    /// not come or does not fit.
-    pub(crate) fn listen(&mut self, own: Head) -> Result<Head, Halt>
+    /// `patience` times at most, gives its processor away in between, and adds up how long. Refused as `Unfit`
+    /// if a letter did not come or does not fit.
+    pub(crate) fn listen<C: Clock>(&mut self, clock: &C, own: Head) -> Result<Head, Halt>
         ensures { OnOk result (Kept self.old self.new) }
     {
         let mut round = Round::begin(own, self.ends.owner(), self.ends.owners());
-        for looks in 0..self.patience {
+        for looks in 0..self.crew.patience {
             let awaited = round.awaited;
             self.hear_those_here(&mut round)?;
             if round.is_over() {
                 return Ok(round.heads);
             }
             if round.awaited == awaited {
-                give_way(looks);
+                let away = give_way(clock, looks);
+                self.waited = self.waited.saturating_add(away);
             }
         }
         Err(Halt::Unfit)
@@ -124,11 +134,31 @@ impl Member {
     }
 }
 
-/// Lets the other threads go on, once a member looked so often in vain.
-fn give_way(looks: u64) {
+/// Lets the other threads go on, once a member looked so often in vain, and gives how long the processor was
+/// away. Who yields for ever uses up its share of a busy machine by waiting, and so it sleeps in the end.
+fn give_way<C: Clock>(clock: &C, looks: u64) -> Duration {
     if looks < SPINS {
         spin_loop();
-    } else {
+        return Duration::ZERO;
+    }
+    let begun = Instant::now(clock).ok();
+    if looks - SPINS < YIELDS {
         yield_now();
+    } else {
+        sleep(clock, sleep_after(looks - SPINS - YIELDS));
+    }
+    since(clock, begun)
+}
+
+/// How long a member sleeps that slept so often before.
+fn sleep_after(sleeps: u64) -> Duration {
+    Duration::from_micros(FIRST_SLEEP << sleeps.min(DOUBLINGS))
+}
+
+/// How long ago that was; zero if the clock gives no time.
+pub(crate) fn since<C: Clock>(clock: &C, begun: Option<Instant>) -> Duration {
+    match (begun, Instant::now(clock)) {
+        (Some(begun), Ok(now)) => now.saturating_duration_since(begun),
+        _ => Duration::ZERO,
     }
 }

@@ -5,6 +5,7 @@ ghost use Rattle.std.specs.Arc.{arc_value};
 ghost use Rattle.awari_crew.specs.Homes.{AreCrew};
 ghost use Rattle.awari_table.specs.declared.TheConstants.{HIGHEST_LEVEL};
 
+use crate::crews::Crew;
 use crate::halts::Halt;
 use crate::letters::Letter;
 use crate::members::Member;
@@ -16,9 +17,15 @@ use awari_table::Shelf;
 use awari_waves::{Chunk, log_of};
 use std::alloc::Global;
 use std::sync::Arc;
+use std::time::Duration;
 
 /// A ring has room for two letters: no member is more than one turn ahead of another.
 const LETTERS: u16 = 2;
+
+/// Each member has so many segments at least, unless they are the smallest ones of a large level.
+const SEGMENTS_A_MEMBER: u32 = 2;
+
+const SMALLEST_LOG: u32 = 18;
 
 /// What all members share of the level that they build.
 #[derive(Drop)]
@@ -30,8 +37,8 @@ pub struct Task {
     level: u8,
     /// A segment has 2 to this power of boards.
     log: u32,
-    /// How often a member looks for a letter.
-    patience: u64,
+    /// Who builds it, and when they give up.
+    crew: Crew,
     ghost indexed: { arc_value index ≡ level },
     ghost next: { length shelf ≡ level },
     ghost low: { level ≤ 24 },
@@ -39,9 +46,9 @@ pub struct Task {
 }
 
 impl Task {
-    /// The shelf's next level. Condition: the shelf has at most `HIGHEST_LEVEL` levels. Refused only if memory
+    /// The shelf's next level, for this crew. Condition: the shelf has at most `HIGHEST_LEVEL` levels. Refused only if memory
     /// runs out.
-    pub(crate) fn of(alloc: Global, shelf: &Shelf, patience: u64) -> Result<Task, Halt>
+    pub(crate) fn of(alloc: Global, shelf: &Shelf, crew: Crew) -> Result<Task, Halt>
         requires low { length shelf.now ≤ HIGHEST_LEVEL }
         ensures { IfOk result (λ task. task.shelf ≡ shelf.now) }
     {
@@ -52,8 +59,8 @@ impl Task {
             shelf,
             index,
             level,
-            log: log_of(size(level)),
-            patience,
+            log: log_for(size(level), crew.members),
+            crew,
         })
     }
 
@@ -72,6 +79,16 @@ impl Task {
     {
         self.log
     }
+}
+
+/// The power of two that a segment has of boards: that of [`log_of`], or a smaller one if some of these members
+/// had too few segments.
+fn log_for(boards: u32, members: u8) -> u32
+    ensures { result < 32 }
+{
+    let segments = (u32::from(members) * SEGMENTS_A_MEMBER).max(1);
+    let log = (boards / segments).max(1).ilog2().max(SMALLEST_LOG);
+    log.min(log_of(boards))
 }
 
 /// This many members of a crew on one grid.
@@ -114,7 +131,9 @@ fn member(alloc: Global, task: &Task, ends: Ends<Letter>) -> Result<Member, Halt
         },
         last: None,
         spare: None,
-        patience: task.patience,
+        crew: task.crew,
+        begun: None,
+        waited: Duration::ZERO,
         alloc,
     })
 }

@@ -3,9 +3,11 @@
 ghost use Rattle.std.specs.Prelude.{◌≡◌, ◌<◌, ◌≤◌, false, length};
 ghost use Rattle.std.specs.Arc.{arc_value};
 
+use crate::crews::Crew;
 use crate::halts::Halt;
 use crate::hearing::hear_rows;
 use crate::letters::{Head, Letter};
+use crate::listening::since;
 use crate::opening::{nearest, open_gain, open_wave};
 use crate::posting::send_all;
 use crate::taking::{are_below, take_boards};
@@ -19,6 +21,7 @@ use awari_table::Shelf;
 use awari_waves::{Chunk, Finder, Row, Segment, find_row};
 use std::alloc::Global;
 use std::sync::Arc;
+use std::time::{Clock, Duration, Instant};
 
 /// A member spreads this many boards in a turn, or a few more: those of a segment are spread together.
 const BOARDS_A_TURN: usize = 65536;
@@ -45,8 +48,11 @@ pub struct Member {
     /// have heard the one before, and it is filled again.
     pub(crate) last: Option<Arc<Row>>,
     pub(crate) spare: Option<Arc<Row>>,
-    /// How often it looks for a letter.
-    pub(crate) patience: u64,
+    /// When it gives up.
+    pub(crate) crew: Crew,
+    /// When it began with the level, if the clock says so, and how long it has waited for letters since.
+    pub(crate) begun: Option<Instant>,
+    pub(crate) waited: Duration,
     pub(crate) alloc: Global,
     ghost indexed: { arc_value index ≡ level },
     ghost next: { length shelf ≡ level },
@@ -62,8 +68,13 @@ impl Member {
     /// Takes turns until all gains are closed, or the level is not wanted any more. In a turn it tells the
     /// others what it spreads, and hears what they spread. As a gain is opened, and in the first turn of a
     /// farther wave that has boards, `progress` is told how many boards were spread before. Refused as
-    /// `Unfit` if what comes does not fit or nothing comes, and as `Memory`; then the level is lost.
-    pub(crate) fn work<P: Progress>(&mut self, progress: &mut P) -> Result<bool, Halt>
+    /// `Unfit` if what comes does not fit or nothing comes, or if the crew is slow, and as `Memory`; then the
+    /// level is lost.
+    pub(crate) fn work<C: Clock, P: Progress>(
+        &mut self,
+        clock: &C,
+        progress: &mut P,
+    ) -> Result<bool, Halt>
         ensures kept { OnOk result (Kept self.old self.new) }
         ensures unwanted { result ≡ Ok false → P.stops }
     {
@@ -71,7 +82,10 @@ impl Member {
         let mut boards: usize = 0;
         for _turn in 0..MOST_TURNS {
             let own = self.tell()?;
-            let heads = self.listen(own)?;
+            let heads = self.listen(clock, own)?;
+            if self.is_slow(clock) {
+                return Err(Halt::Unfit);
+            }
             if heads.spread && told.wave < self.stake.wave {
                 told = self.stake;
                 if !is_wanted_at(told, boards, progress) {
@@ -90,6 +104,19 @@ impl Member {
             }
         }
         Err(Halt::Unfit)
+    }
+
+    /// Whether the crew takes longer than one thread would, as the first member sees it: longer than all together
+    /// have worked, and half as long again. It waits that long on a busy machine, where each turn waits for the
+    /// member whose processor others use.
+    fn is_slow<C: Clock>(&self, clock: &C) -> bool {
+        if self.ends.owner() != 0 {
+            return false;
+        }
+        let gone = since(clock, self.begun);
+        let worked = gone.saturating_sub(self.waited).as_nanos();
+        let alone = worked.saturating_mul(self.ends.owners() as u128);
+        gone.as_millis() > u128::from(self.crew.soon) && gone.as_nanos() / 3 > alone / 2
     }
 
     /// Takes boards of the open wave, tells the others their notes, and hears what is for its own

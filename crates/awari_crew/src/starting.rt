@@ -14,6 +14,7 @@ use std::alloc::Global;
 use std::snapshot::Snapshot;
 use std::thread;
 use std::thread::{Promise, Threads};
+use std::time::Clock;
 
 /// What comes of a thread, if it comes home, is its member.
 #[derive(Drop)]
@@ -24,17 +25,17 @@ impl Promise<Result<Option<Home>, Halt>> for HomeOf {
 }
 
 /// Stays with nobody to tell.
-fn stay_silent(member: Member) -> Result<Option<Home>, Halt>
+fn stay_silent<C: Clock>(clock: &C, member: Member) -> Result<Option<Home>, Halt>
     ensures { IfOk result (λ home. IfSome home (ComesHome member)) }
 {
-    stay(member, &mut Silent)
+    stay(clock, member, &mut Silent)
 }
 
 /// The first member stays on the caller's thread and tells `progress`, and each other one in a thread of
 /// its own. All that were started are joined before anything is answered. None if the level is not wanted
 /// any more. Refused as `Unfit` if a thread could not be started, and as a member is: a member that leaves
 /// drops its ends, so the others leave too.
-pub(crate) fn stay_all<R: Threads, P: Progress>(
+pub(crate) fn stay_all<R: Threads + Clock + Send + Clone + Drop + 'static, P: Progress>(
     rt: &R,
     alloc: Global,
     mut members: Vec<Member>,
@@ -47,10 +48,11 @@ pub(crate) fn stay_all<R: Threads, P: Progress>(
         return Ok(Some(Vec::new(alloc)));
     };
     if members.is_empty() {
-        return stay_first(alloc, member, progress);
+        return stay_first(rt, alloc, member, progress);
     }
     let promise = HomeOf(Snapshot::of(&member));
-    match thread::spawn_with(rt, promise, move || stay_silent(member)) {
+    let clock = rt.clone()?;
+    match thread::spawn_with(rt, promise, move || stay_silent(&clock, member)) {
         Ok(child) => {
             let others = stay_all(rt, alloc, members, progress);
             with_last(others, child.join(rt))
@@ -60,7 +62,8 @@ pub(crate) fn stay_all<R: Threads, P: Progress>(
 }
 
 /// The first member stays.
-fn stay_first<P: Progress>(
+fn stay_first<C: Clock, P: Progress>(
+    clock: &C,
     alloc: Global,
     member: Member,
     progress: &mut P,
@@ -68,7 +71,7 @@ fn stay_first<P: Progress>(
     ensures home { IfOk result (λ homes. IfSome homes (λ homes. AllComeHome (member ∷ []) homes.items)) }
     ensures unwanted { result ≡ Ok None → P.stops }
 {
-    let Some(home) = stay(member, progress)? else {
+    let Some(home) = stay(clock, member, progress)? else {
         return Ok(None);
     };
     let mut homes = Vec::with_capacity(alloc, 1)?;

@@ -3,7 +3,9 @@
 
 use crate::expect::expect_equal;
 use crate::shelves::levels_below;
-use awari_build::{Pace, build_alone, build_level, build_together};
+use awari_build::{CrewBuilt, Pace, build_alone, build_by_crew, build_level, build_together};
+use awari_crew::Crew;
+use awari_heard::Silent;
 use awari_phase::Open;
 use awari_table::{Counts, Level, Shelf};
 use std::alloc::Global;
@@ -11,6 +13,7 @@ use std::process::Abort;
 use std::sync::Arc;
 use std::test::Fail;
 use std::thread::Threads;
+use std::time::Clock;
 
 /// Boards won, even and lost, and the limit, of levels 0 to 13.
 pub(crate) const COUNTS: [(u32, u32, u32, u32); 14] = [
@@ -47,15 +50,20 @@ fn one_part_builds_levels_0_to_13(rt: HostRuntime) -> Result<(), Fail> {
     Ok(())
 }
 
-/// Levels 0 to 8, each built by this many threads together. Level 8 has 18 segments.
+/// Levels 0 to 8, each built by a crew of this many. Level 8 has 18 segments.
 fn expect_built_together(
-    rt: &(impl Abort + Threads + Sync),
+    rt: &(impl Abort + Threads + Clock + Sync + Send + Clone + Drop + 'static),
     alloc: Global,
-    threads: usize,
+    members: u8,
 ) -> Result<(), Fail> {
+    let crew = Crew {
+        members,
+        patience: 1_000_000,
+        soon: u64::MAX,
+    };
     let mut shelf = Shelf::empty();
     for counts in &COUNTS[..9] {
-        let level = build_together(rt, alloc, &shelf, threads)?;
+        let CrewBuilt { level, .. } = build_by_crew(rt, alloc, &shelf, crew, &mut Silent)?;
         expect_counts(rt, &level, *counts);
         shelf.push(Arc::new(alloc, level)?);
     }
@@ -63,13 +71,21 @@ fn expect_built_together(
 }
 
 #[test]
-fn one_thread_builds_levels_0_to_8(rt: HostRuntime) -> Result<(), Fail> {
+fn a_crew_of_one_builds_levels_0_to_8(rt: HostRuntime) -> Result<(), Fail> {
     expect_built_together(&rt, rt.alloc(), 1)
 }
 
 #[test]
-fn three_threads_build_levels_0_to_8_together(rt: HostRuntime) -> Result<(), Fail> {
+fn a_crew_of_three_builds_levels_0_to_8(rt: HostRuntime) -> Result<(), Fail> {
     expect_built_together(&rt, rt.alloc(), 3)
+}
+
+#[test]
+fn two_threads_build_level_2(rt: HostRuntime) -> Result<(), Fail> {
+    let shelf = levels_below(rt.alloc(), 2)?;
+    let level = build_together(&rt, rt.alloc(), &shelf, 2)?;
+    expect_counts(&rt, &level, COUNTS[2]);
+    Ok(())
 }
 
 #[test]

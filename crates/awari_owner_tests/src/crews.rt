@@ -9,12 +9,14 @@ use awari_table::{HIGHEST_LEVEL, Shelf};
 use std::alloc::Global;
 use std::test::Fail;
 use std::thread::Threads;
+use std::time::Clock;
 
 #[test]
 fn two_members_close_level_0(rt: HostRuntime) -> Result<(), Fail> {
     let crew = Crew {
         members: 2,
         patience: 1_000_000,
+        soon: u64::MAX,
     };
     let built = closed_by_crew(&rt, rt.alloc(), &Shelf::empty(), crew, &mut Silent);
     expect(&rt, "closed", matches!(built, Ok(Some(_))));
@@ -24,7 +26,7 @@ fn two_members_close_level_0(rt: HostRuntime) -> Result<(), Fail> {
 /// Whether a crew of this many, which look so often for a letter, closes the shelf's next level. If it does, the
 /// level does not have to be built otherwise.
 fn is_closed_by(
-    rt: &impl Threads,
+    rt: &(impl Threads + Clock + Send + Clone + Drop + 'static),
     alloc: Global,
     shelf: &Shelf,
     members: u8,
@@ -33,7 +35,11 @@ fn is_closed_by(
     if shelf.levels() > HIGHEST_LEVEL || members == 0 || members > 16 {
         return false;
     }
-    let crew = Crew { members, patience };
+    let crew = Crew {
+        members,
+        patience,
+        soon: u64::MAX,
+    };
     matches!(
         closed_by_crew(rt, alloc, shelf, crew, &mut Silent),
         Ok(Some(_)),
@@ -57,8 +63,10 @@ fn members_that_never_look_leave_and_the_level_is_built(rt: HostRuntime) -> Resu
     let crew = Crew {
         members: 2,
         patience: 0,
+        soon: u64::MAX,
     };
     let built = build_by_crew(&rt, rt.alloc(), &shelf, crew, &mut Silent)?;
-    expect_equal(&rt, "lost", built.counts().lost, 179);
+    expect_equal(&rt, "lost", built.level.counts().lost, 179);
+    expect(&rt, "given up", built.gave_up);
     Ok(())
 }

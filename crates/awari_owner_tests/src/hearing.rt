@@ -3,15 +3,16 @@
 ghost use Rattle.std.specs.Prelude.{⊤};
 
 use awari_build::{
-    BuildFault, Pace, Watch, build_alone_with_progress, build_level_with_progress,
-    build_together_with_progress,
+    BuildFault, Pace, Watch, build_alone_with_progress, build_by_crew, build_level_with_progress,
 };
+use awari_crew::Crew;
 use awari_heard::{Progress, Told};
 use awari_phase::Open;
 use awari_table::{Level, Shelf};
 use std::alloc::Global;
 use std::sync::Wait;
 use std::thread::Threads;
+use std::time::Clock;
 
 /// What a progress is told, and where it is asked whether the level is still wanted.
 #[derive(Clone, Copy, Debug, PartialEq, Eq)]
@@ -68,15 +69,15 @@ impl Progress for Listener {
 pub(crate) enum Builder {
     /// One part.
     Alone,
-    /// This many threads together.
-    Together(usize),
+    /// A crew of this many.
+    Together(u8),
     /// This many owners.
     Owners(u8),
 }
 
 /// Builds the shelf's next level.
 fn built(
-    rt: &(impl Threads + Wait + Sync),
+    rt: &(impl Threads + Clock + Wait + Sync + Send + Clone + Drop + 'static),
     alloc: Global,
     shelf: &Shelf,
     builder: Builder,
@@ -84,8 +85,14 @@ fn built(
 ) -> Result<Level, BuildFault> {
     match builder {
         Builder::Alone => build_alone_with_progress(alloc, shelf, progress),
-        Builder::Together(threads) => {
-            build_together_with_progress(rt, alloc, shelf, threads, progress)
+        Builder::Together(members) => {
+            let crew = Crew {
+                members,
+                patience: 1_000_000,
+                soon: u64::MAX,
+            };
+            let built = build_by_crew(rt, alloc, shelf, crew, progress)?;
+            Ok(built.level)
         }
         Builder::Owners(owners) => {
             let gate = &Open;
@@ -97,7 +104,7 @@ fn built(
 
 /// Builds the shelf's next level while it is wanted this many times. Gives the refusal, and what was heard.
 pub(crate) fn listened(
-    rt: &(impl Threads + Wait + Sync),
+    rt: &(impl Threads + Clock + Wait + Sync + Send + Clone + Drop + 'static),
     alloc: Global,
     shelf: &Shelf,
     builder: Builder,

@@ -12,6 +12,7 @@ use std::process::Abort;
 use std::sync::Wait;
 use std::test::Fail;
 use std::thread::Threads;
+use std::time::Clock;
 
 /// What is answered if a level is not wanted any more.
 const STOPPED: BuildFault = BuildFault::Phase {
@@ -20,7 +21,7 @@ const STOPPED: BuildFault = BuildFault::Phase {
 
 /// A build of a level that is wanted this many times is refused, once it told this.
 fn expect_stopped(
-    rt: &(impl Abort + Threads + Wait + Sync),
+    rt: &(impl Abort + Threads + Clock + Wait + Sync + Send + Clone + Drop + 'static),
     alloc: Global,
     shelf: &Shelf,
     builder: Builder,
@@ -33,7 +34,7 @@ fn expect_stopped(
 
 /// A builder that tells this is stopped at each of its asks, and nothing comes behind that.
 fn expect_stopped_at_each(
-    rt: &(impl Abort + Threads + Wait + Sync),
+    rt: &(impl Abort + Threads + Clock + Wait + Sync + Send + Clone + Drop + 'static),
     alloc: Global,
     shelf: &Shelf,
     builder: Builder,
@@ -50,7 +51,7 @@ fn expect_stopped_at_each(
 
 /// The builder is stopped so at level 4, of which it tells each distance.
 fn expect_stopped_at_distances(
-    rt: &(impl Abort + Threads + Wait + Sync),
+    rt: &(impl Abort + Threads + Clock + Wait + Sync + Send + Clone + Drop + 'static),
     alloc: Global,
     builder: Builder,
 ) -> Result<(), Fail> {
@@ -84,7 +85,7 @@ fn asks(told: &[Heard]) -> u32 {
 
 /// Three owners, whose rounds differ from build to build, are stopped when they are asked so often.
 fn expect_owners_stopped(
-    rt: &(impl Abort + Threads + Wait + Sync),
+    rt: &(impl Abort + Threads + Clock + Wait + Sync + Send + Clone + Drop + 'static),
     alloc: Global,
     shelf: &Shelf,
     wants: u32,

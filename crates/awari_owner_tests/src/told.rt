@@ -12,6 +12,7 @@ use std::process::Abort;
 use std::sync::Wait;
 use std::test::Fail;
 use std::thread::Threads;
+use std::time::Clock;
 
 /// One more than the greatest distance of levels 0 to 6.
 const DISTANCES: usize = 65;
@@ -156,7 +157,7 @@ const LEVELS: [(u8, usize, usize); 3] = [(0, 1, 0), (1, 12, 12), (6, 12_376, 10_
 
 /// The builder builds the level above the shelf, and tells each gain and distance of it.
 fn expect_distances(
-    rt: &(impl Abort + Threads + Wait + Sync),
+    rt: &(impl Abort + Threads + Clock + Wait + Sync + Send + Clone + Drop + 'static),
     alloc: Global,
     builder: Builder,
     (level, boards): (u8, usize),
@@ -199,7 +200,7 @@ fn expect_settled(rt: &impl Abort, told: &[Heard], settled: usize) {
 
 /// This many owners build the level, and tell of the last round of each gain how many boards are settled.
 fn expect_gains(
-    rt: &(impl Abort + Threads + Wait + Sync),
+    rt: &(impl Abort + Threads + Clock + Wait + Sync + Send + Clone + Drop + 'static),
     alloc: Global,
     owners: u8,
     (level, boards, settled): (u8, usize, usize),
