@@ -18,6 +18,7 @@ use Rattle.awari_levels.specs.Texts.{PrintsText}
 use Rattle.awari_boards.specs.Worths.{PrintsWorths}
 use Rattle.awari_levels.specs.Boards.{PrintsAllBoards, PrintsBoardsBy}
 use Rattle.awari_pairs.specs.Pairs.{PrintsPairsBy}
+use Rattle.awari_queries.specs.Boards.{form_of}
 use Rattle.awari_queries.specs.declared.questions.CountsQuery.{CountsQuery}
 use Rattle.awari_levels.specs.Counts.{PrintsCountsBy}
 use Rattle.awari_boards.specs.Places.{PrintsBoard, PrintsPlace}
@@ -40,7 +41,7 @@ PrintsServiceBy true = PrintsServiceSaid
 
 -- levels in numbers, or a level by two columns
 abbrev pub PrintsNumbers : Option (Bor (List ℕ)) → CountsQuery → Stands → Option (List ℕ) → Option (List ℕ) → Type 0
-PrintsNumbers None q stands = PrintsCountsBy q.unverified q.json stands q.level
+PrintsNumbers None q stands = PrintsCountsBy q.unverified (form_of q.json q.csv) stands q.level
 PrintsNumbers (Some by) q stands = PrintsPairsBy q.unverified stands q
 
 -- the lines of the levels that lie in a folder, their text, the board's entry, its legal moves, a line of play from it, the answers

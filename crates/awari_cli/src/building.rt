@@ -10,12 +10,12 @@ ghost use Rattle.awari_folder.specs.Migration.{KeepsFiles};
 ghost use Rattle.awari_answers.specs.LevelLines.{IsToldOf};
 ghost use Rattle.awari_cli.specs.Building.{AddsFile, BuildsTo, KeepsLevels, LeavesFiles, PrintsAllLevels, PrintsLevels, SameOutside, SavesLevel, SavesTop};
 
-use crate::beside::{Beside, BuildProgress, Saving};
+use crate::beside::{Beside, BuildProgress, SaveHeard, SaveTold, Saving, saving_beside};
 use crate::estimates::{Bytes, Estimate};
 use crate::faults::CommandFault;
-use crate::ways::{Way, build_by, way_beside_save, way_of};
+use crate::ways::{Way, build_by};
 use awari_answers::{LevelLine, Replies, line_of_level, print, refuse, status_of};
-use awari_build::{BuildFault, Pace};
+use awari_build::BuildFault;
 use awari_folder::{Folder, FolderFault, Stored, Together, load, save_or_keep};
 use awari_heard::Progress;
 use awari_play::lowest_plans_stay;
@@ -24,15 +24,14 @@ use rayon::join_mut;
 use std::alloc::Global;
 use std::sync::{Arc, Wait};
 use std::thread::Threads;
+use std::time::Clock;
 
-/// What a build works with: its threads and memory, how its owners work, and who hears how far it is.
+/// What a build works with: its threads and memory, by whom levels are built, and who hears how far that is.
 #[derive(Drop)]
 pub struct Builder<'a, T, P> {
     pub rt: &'a T,
     pub alloc: Global,
-    /// How many threads build a level together if it has no owners.
-    pub threads: usize,
-    pub pace: Pace,
+    pub way: Way,
     pub progress: &'a mut P,
 }
 
@@ -42,28 +41,31 @@ struct Tools<'a, T> {
     rt: &'a T,
     alloc: Global,
     way: Way,
-    /// By whom it is built while a thread saves the level below, none if a save and a build come in turn.
-    fewer: Option<Way>,
 }
 
-/// What this builder builds with: its owners, or all threads together if it has none.
+/// What this builder builds the next level with.
 fn tools_of<'a, T, P>(builder: &Builder<'a, T, P>) -> Tools<'a, T> {
-    let way = way_of(builder.threads, builder.pace);
     Tools {
         rt: builder.rt,
         alloc: builder.alloc,
-        way,
-        fewer: way_beside_save(way),
+        way: builder.way,
     }
+}
+
+/// What came of a level, and by whom the next one is built.
+#[derive(Drop)]
+struct Built {
+    level: Result<Arc<Level>, CommandFault>,
+    way: Way,
 }
 
 /// Builds the levels up to `top` and prints the line of each. A refusal is printed behind the lines
 /// before it.
-pub fn run_build<T: Threads + Wait + Sync, P: Progress, W: Replies>(
-    builder: &mut Builder<'_, T, P>,
-    top: u8,
-    writer: &mut W,
-) -> u8
+pub fn run_build<
+    T: Threads + Clock + Wait + Sync + Send + Clone + Drop + 'static,
+    P: Progress,
+    W: Replies,
+>(builder: &mut Builder<'_, T, P>, top: u8, writer: &mut W) -> u8
     ensures status { result ≤ 1 }
     ensures built { result ≡ 0 → PrintsAllLevels top (W.contents writer.old) (W.contents writer.new) }
 {
@@ -73,12 +75,12 @@ pub fn run_build<T: Threads + Wait + Sync, P: Progress, W: Replies>(
 /// Builds the levels above those of the folder, up to `top`, and prints the line of each once it is
 /// saved there. A file that stands there already stays: it counts as saved if it is the level's, and
 /// else the level is refused as 85. A refusal is printed behind the lines before it.
-pub fn run_build_in<T: Threads + Wait + Sync, P: BuildProgress + Send, F: Folder, W: Replies>(
-    builder: &mut Builder<'_, T, P>,
-    folder: &mut F,
-    top: u8,
-    writer: &mut W,
-) -> u8
+pub fn run_build_in<
+    T: Threads + Clock + Wait + Sync + Send + Clone + Drop + 'static,
+    P: BuildProgress + Send,
+    F: Folder,
+    W: Replies,
+>(builder: &mut Builder<'_, T, P>, folder: &mut F, top: u8, writer: &mut W) -> u8
     ensures status { result ≤ 1 }
     ensures built { result ≡ 0
         → PrintsLevels top (F.state folder.old).stands (F.state folder.new).stands (W.contents writer.old) (W.contents writer.new) }
@@ -96,12 +98,11 @@ pub fn run_build_in<T: Threads + Wait + Sync, P: BuildProgress + Send, F: Folder
 }
 
 /// Builds the levels above the shelf up to `top`, and prints the line of each.
-fn build_up<T: Threads + Wait + Sync, P: Progress, W: Replies>(
-    builder: &mut Builder<'_, T, P>,
-    top: u8,
-    shelf: &mut Shelf,
-    writer: &mut W,
-) -> u8
+fn build_up<
+    T: Threads + Clock + Wait + Sync + Send + Clone + Drop + 'static,
+    P: Progress,
+    W: Replies,
+>(builder: &mut Builder<'_, T, P>, top: u8, shelf: &mut Shelf, writer: &mut W) -> u8
     ensures status { result ≤ 1 }
     ensures built { result ≡ 0 → BuildsTo top shelf.old shelf.new (W.contents writer.old) (W.contents writer.new) }
     ensures no_more { result ≡ 0 → length shelf.old ≤ top + 1 → length shelf.new ≤ top + 1 }
@@ -121,7 +122,12 @@ fn build_up<T: Threads + Wait + Sync, P: Progress, W: Replies>(
 
 /// Builds the levels above those that the folder has stored up to `top`, saves each there, and prints
 /// its line.
-pub(crate) fn build_up_in<T: Threads + Wait + Sync, P: BuildProgress + Send, F: Folder, W: Replies>(
+pub(crate) fn build_up_in<
+    T: Threads + Clock + Wait + Sync + Send + Clone + Drop + 'static,
+    P: BuildProgress + Send,
+    F: Folder,
+    W: Replies,
+>(
     builder: &mut Builder<'_, T, P>,
     folder: &mut F,
     top: u8,
@@ -147,7 +153,7 @@ pub(crate) fn build_up_in<T: Threads + Wait + Sync, P: BuildProgress + Send, F: 
             return 1;
         }
     }
-    status_of(save_last(builder.rt, folder, stored, writer))
+    status_of(save_last(folder, stored, writer))
 }
 
 /// Writes the refusal of the level of this number, and gives the status 1. If memory ran out, it is told how
@@ -169,7 +175,7 @@ fn refuse_level<W: Replies>(writer: &mut W, level: u8, fault: CommandFault) -> u
 }
 
 /// Builds the level above the shelf, and puts it on top.
-fn build_next<T: Threads + Wait + Sync, P: Progress>(
+fn build_next<T: Threads + Clock + Wait + Sync + Send + Clone + Drop + 'static, P: Progress>(
     builder: &mut Builder<'_, T, P>,
     shelf: &mut Shelf,
 ) -> Result<LevelLine, CommandFault>
@@ -179,7 +185,9 @@ fn build_next<T: Threads + Wait + Sync, P: Progress>(
     // Ghost: the plans stay the lowest.
     lowest_plans_stay();
     let tools = tools_of(builder);
-    let level = built_level(&tools, tools.way, shelf, builder.progress)?;
+    let built = built_level(&tools, shelf, builder.progress);
+    builder.way = built.way;
+    let level = built.level?;
     let told = line_of_level(&level);
     shelf.push(level);
     Ok(told)
@@ -187,12 +195,12 @@ fn build_next<T: Threads + Wait + Sync, P: Progress>(
 
 /// Saves the level on top of the shelf, and puts the next one on it. True if both was done. If not, the
 /// refusal is printed, behind the line of the level if that is saved.
-fn save_and_build<T: Threads + Wait + Sync, P: BuildProgress + Send, F: Folder, W: Replies>(
-    builder: &mut Builder<'_, T, P>,
-    folder: &mut F,
-    stored: &mut Stored,
-    writer: &mut W,
-) -> bool
+fn save_and_build<
+    T: Threads + Clock + Wait + Sync + Send + Clone + Drop + 'static,
+    P: BuildProgress + Send,
+    F: Folder,
+    W: Replies,
+>(builder: &mut Builder<'_, T, P>, folder: &mut F, stored: &mut Stored, writer: &mut W) -> bool
     requires { 0 < length stored.old.shelf }
     ensures saved { result ≡ true → SavesTop stored.old.shelf stored.old.digest stored.new.digest (F.state folder.old) (F.state folder.new) (W.contents writer.old) (W.contents writer.new) }
     ensures built { result ≡ true → (image : Image) × (stored.new.shelf ≡ stored.old.shelf ++ image ∷ []) }
@@ -207,7 +215,8 @@ fn save_and_build<T: Threads + Wait + Sync, P: BuildProgress + Send, F: Folder, 
     };
     let own = saved.digest;
     stored.digest = own;
-    match saved.built {
+    builder.way = saved.built.way;
+    match saved.built.level {
         Ok(level) => {
             stored.shelf.push(level);
             true
@@ -224,12 +233,17 @@ fn save_and_build<T: Threads + Wait + Sync, P: BuildProgress + Send, F: Folder, 
 struct Saved {
     /// The digest that the level's file ends in.
     digest: [u8; 32],
-    built: Result<Arc<Level>, CommandFault>,
+    built: Built,
 }
 
-/// Saves the level on top of the shelf, and builds the next one above it. Of several threads one saves while the
-/// others build. It gives nothing if the level is not saved, or its line not written.
-fn saved_and_built<T: Threads + Wait + Sync, P: BuildProgress + Send, F: Folder, W: Replies>(
+/// Saves the level on top of the shelf, and builds the next one above it. If several threads build, one more saves
+/// meanwhile. It gives nothing if the level is not saved, or its line not written.
+fn saved_and_built<
+    T: Threads + Clock + Wait + Sync + Send + Clone + Drop + 'static,
+    P: BuildProgress + Send,
+    F: Folder,
+    W: Replies,
+>(
     tools: &Tools<'_, T>,
     progress: &mut P,
     folder: &mut F,
@@ -238,53 +252,70 @@ fn saved_and_built<T: Threads + Wait + Sync, P: BuildProgress + Send, F: Folder,
 ) -> Option<Saved>
     requires { 0 < length stored.now.shelf }
     ensures saved { IfSome result (λ saved. SavesTop stored.now.shelf stored.now.digest saved.digest (F.state folder.old) (F.state folder.new) (W.contents writer.old) (W.contents writer.new)) }
-    ensures built { IfSome result (λ saved. IfOk saved.built (λ level. Consistent stored.now.shelf (arc_value level) × IsPlannedLowest stored.now.shelf (arc_value level))) }
+    ensures built { IfSome result (λ saved. IfOk saved.built.level (λ level. Consistent stored.now.shelf (arc_value level) × IsPlannedLowest stored.now.shelf (arc_value level))) }
     ensures adds { AddsFile (length stored.now.shelf - 1) (F.state folder.old) (F.state folder.new) }
 {
-    let saving = Saving::new(tools.rt);
-    if tools.fewer.is_none() {
-        let digest = save_or_refuse(&saving, folder, stored, writer)?;
-        let built = built_level(tools, tools.way, &stored.shelf, progress);
-        return Some(Saved { digest, built });
+    if !tools.way.saves_beside() {
+        return saved_then_built(tools, progress, folder, stored, writer);
     }
+    let Ok((mut saving, mut save)) = saving_beside(tools.alloc) else {
+        return saved_then_built(tools, progress, folder, stored, writer);
+    };
     let (built, saved) = join_mut(
         tools.rt,
-        &mut || built_beside(&saving, tools, &stored.shelf, progress),
-        &mut || save_or_refuse(&saving, folder, stored, writer),
+        &mut || built_beside(&mut save, tools, &stored.shelf, progress),
+        &mut || save_or_refuse(&mut saving, folder, stored, writer),
     );
     let digest = saved?;
     Some(Saved { digest, built })
 }
 
 /// The level above the shelf, built while the level below is saved. It is not wanted once that is refused.
-fn built_beside<T: Threads + Wait + Sync, P: BuildProgress>(
-    saving: &Saving<'_, T>,
+fn built_beside<T: Threads + Clock + Wait + Sync + Send + Clone + Drop + 'static, P: BuildProgress>(
+    save: &mut SaveHeard,
     tools: &Tools<'_, T>,
     shelf: &Shelf,
     progress: &mut P,
-) -> Result<Arc<Level>, CommandFault>
-    ensures consistent { IfOk result (λ level. Consistent shelf.now (arc_value level)) }
-    ensures planned { IfOk result (λ level. IsPlannedLowest shelf.now (arc_value level)) }
+) -> Built
+    ensures consistent { IfOk result.level (λ level. Consistent shelf.now (arc_value level)) }
+    ensures planned { IfOk result.level (λ level. IsPlannedLowest shelf.now (arc_value level)) }
 {
-    let way = tools.fewer.unwrap_or(tools.way);
-    let mut beside = Beside { saving, progress };
-    built_level(tools, way, shelf, &mut beside)
+    let mut beside = Beside { save, progress };
+    built_level(tools, shelf, &mut beside)
+}
+
+/// Saves the level on top of the shelf, and then builds the next one above it. It gives nothing if the level is
+/// not saved, or its line not written.
+fn saved_then_built<
+    T: Threads + Clock + Wait + Sync + Send + Clone + Drop + 'static,
+    P: BuildProgress,
+    F: Folder,
+    W: Replies,
+>(
+    tools: &Tools<'_, T>,
+    progress: &mut P,
+    folder: &mut F,
+    stored: &Stored,
+    writer: &mut W,
+) -> Option<Saved>
+    requires { 0 < length stored.now.shelf }
+    ensures saved { IfSome result (λ saved. SavesTop stored.now.shelf stored.now.digest saved.digest (F.state folder.old) (F.state folder.new) (W.contents writer.old) (W.contents writer.new)) }
+    ensures built { IfSome result (λ saved. IfOk saved.built.level (λ level. Consistent stored.now.shelf (arc_value level) × IsPlannedLowest stored.now.shelf (arc_value level))) }
+    ensures adds { AddsFile (length stored.now.shelf - 1) (F.state folder.old) (F.state folder.new) }
+{
+    let digest = save_or_refuse(&mut Saving::alone(), folder, stored, writer)?;
+    let built = built_level(tools, &stored.shelf, progress);
+    Some(Saved { digest, built })
 }
 
 /// Saves the level on top of the shelf. True if that was done; if not, the refusal is printed.
-fn save_last<T: Wait, F: Folder, W: Replies>(
-    rt: &T,
-    folder: &mut F,
-    stored: &mut Stored,
-    writer: &mut W,
-) -> bool
+fn save_last<F: Folder, W: Replies>(folder: &mut F, stored: &mut Stored, writer: &mut W) -> bool
     requires { 0 < length stored.old.shelf }
     ensures saved { result ≡ true → SavesTop stored.old.shelf stored.old.digest stored.new.digest (F.state folder.old) (F.state folder.new) (W.contents writer.old) (W.contents writer.new) }
     ensures shelf { stored.new.shelf ≡ stored.old.shelf }
     ensures adds { AddsFile (length stored.old.shelf - 1) (F.state folder.old) (F.state folder.new) }
 {
-    let saving = Saving::new(rt);
-    match save_or_refuse(&saving, folder, stored, writer) {
+    match save_or_refuse(&mut Saving::alone(), folder, stored, writer) {
         Some(own) => {
             stored.digest = own;
             true
@@ -296,8 +327,8 @@ fn save_last<T: Wait, F: Folder, W: Replies>(
 /// Saves the level on top of the shelf unless its file is there, and prints its line. It gives the digest of the
 /// file, or nothing if that is refused, which is printed, or if the line is not written. Then no further
 /// level is wanted.
-fn save_or_refuse<T: Wait, F: Folder, W: Replies>(
-    saving: &Saving<'_, T>,
+fn save_or_refuse<F: Folder, W: Replies>(
+    saving: &mut Saving,
     folder: &mut F,
     stored: &Stored,
     writer: &mut W,
@@ -312,12 +343,11 @@ fn save_or_refuse<T: Wait, F: Folder, W: Replies>(
     match save_and_tell(saving, folder, level, below, writer) {
         Ok(Some(own)) => Some(own),
         Ok(None) => {
-            saving.begin_to_print().refused = true;
+            saving.tell(SaveTold::Refused);
             None
         }
         Err(fault) => {
-            let mut save = saving.begin_to_print();
-            save.refused = true;
+            saving.tell(SaveTold::Refused);
             refuse_level(writer, number, CommandFault::Folder { fault });
             None
         }
@@ -327,8 +357,8 @@ fn save_or_refuse<T: Wait, F: Folder, W: Replies>(
 /// Saves the level unless its file is there, and prints its line. It gives the digest of the file, or nothing
 /// if the line is not written. Nothing is refused once the file is saved, so a level that is saved is
 /// always told.
-fn save_and_tell<T: Wait, F: Folder, W: Replies>(
-    saving: &Saving<'_, T>,
+fn save_and_tell<F: Folder, W: Replies>(
+    saving: &mut Saving,
     folder: &mut F,
     level: &Level,
     below: [u8; 32],
@@ -340,18 +370,33 @@ fn save_and_tell<T: Wait, F: Folder, W: Replies>(
 {
     let own = save_or_keep(folder, level, below)?;
     let line = line_of_level(level);
-    let _save = saving.begin_to_print();
+    saving.tell(SaveTold::Prints);
     if print(writer, &line) {
+        saving.tell(SaveTold::Printed);
         Ok(Some(own))
     } else {
         Ok(None)
     }
 }
 
-/// The level above the shelf, built so, in the `Arc` that a shelf holds.
-fn built_level<T: Threads + Wait + Sync, P: Progress>(
+/// The level above the shelf, built with these tools.
+fn built_level<T: Threads + Clock + Wait + Sync + Send + Clone + Drop + 'static, P: Progress>(
     tools: &Tools<'_, T>,
-    way: Way,
+    shelf: &Shelf,
+    progress: &mut P,
+) -> Built
+    ensures consistent { IfOk result.level (λ level. Consistent shelf.now (arc_value level)) }
+    ensures planned { IfOk result.level (λ level. IsPlannedLowest shelf.now (arc_value level)) }
+{
+    let mut way = tools.way;
+    let level = shared_level(tools, &mut way, shelf, progress);
+    Built { level, way }
+}
+
+/// The level above the shelf, built so, in the `Arc` that a shelf holds.
+fn shared_level<T: Threads + Clock + Wait + Sync + Send + Clone + Drop + 'static, P: Progress>(
+    tools: &Tools<'_, T>,
+    way: &mut Way,
     shelf: &Shelf,
     progress: &mut P,
 ) -> Result<Arc<Level>, CommandFault>

@@ -8,7 +8,7 @@
 //! Levels are built up to `top` in a folder in memory, in `crates/awari_cli_tests/src/plain.rt`:
 //!
 //!     fn build_to(
-//!         rt: &(impl AllocGlobal + Threads + Wait + Sync),
+//!         rt: &(impl AllocGlobal + Threads + Clock + Wait + Sync + Send + Clone + Drop + 'static),
 //!         folder: &mut MemoryFolder,
 //!         top: u8,
 //!         progress: &mut (impl BuildProgress + Send),
@@ -17,8 +17,7 @@
 //!         let mut builder = Builder {
 //!             rt,
 //!             alloc: rt.alloc(),
-//!             threads: 2,
-//!             pace: OWNERLESS,
+//!             way: Way::of(2, OWNERLESS),
 //!             progress,
 //!         };
 //!         run_build_in(&mut builder, folder, top, output)
@@ -41,7 +40,7 @@ mod writing;
 
 pub use awari_answers::{Answers, NoAnswer, Replies, Streams};
 pub use awari_boards::{Judgement, Played, judge, play_on, run_ask, run_line, run_moves};
-pub use awari_check::check;
+pub use awari_check::{CheckFault, check};
 pub use awari_host::{Disk, Host, Machine, Purpose};
 pub use awari_levels::{run_text, run_verify};
 pub use awari_queries::{AskQuery, LineQuery, MovesQuery, ServeQuery, VerifyQuery};
@@ -53,3 +52,4 @@ pub use migrating::run_migrate;
 pub use progress::{HowTold, ProgressLines};
 pub use runs::run;
 pub use serving::run_serve;
+pub use ways::Way;

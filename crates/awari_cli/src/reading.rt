@@ -6,7 +6,7 @@ ghost use Rattle.awari_host.specs.Hosts.{AllStay};
 ghost use Rattle.awari_folder.specs.Contents.{Same};
 
 use crate::serving::run_serve;
-use awari_answers::{NoAnswer, Replies, Streams, print, refuse};
+use awari_answers::{Replies, Streams, print};
 use awari_boards::{run_ask, run_line, run_moves};
 use awari_folder::Folder;
 use awari_host::{Host, Purpose};
@@ -19,6 +19,7 @@ use std::alloc::Global;
 use std::io::{Read, Write};
 use std::sync::Wait;
 use std::thread::Threads;
+use std::time::Clock;
 
 /// A question, and the name of the folder that it is about.
 #[derive(Clone, Copy)]
@@ -30,7 +31,7 @@ pub(crate) struct Reading<'a> {
 /// Answers the question by the levels in the folder of this name.
 pub(crate) fn run_reading<
     'a,
-    T: Threads + Wait + Sync + Send + Clone + Drop + 'static,
+    T: Threads + Clock + Wait + Sync + Send + Clone + Drop + 'static,
     H: Host<'a>,
     R: Read,
     W: Replies,
@@ -57,7 +58,7 @@ pub(crate) fn run_reading<
 
 /// Answers the question by the levels in this folder.
 fn run_question<
-    T: Threads + Wait + Sync + Send + Clone + Drop + 'static,
+    T: Threads + Clock + Wait + Sync + Send + Clone + Drop + 'static,
     F: Folder,
     R: Read,
     W: Replies,
@@ -91,7 +92,7 @@ fn run_question<
     }
 }
 
-/// Prints levels in numbers, or a level by two columns. CSV is refused as 96 if no columns are asked for.
+/// Prints levels in numbers, or a level by two columns.
 fn run_numbers<T: Threads + Sync, F: Folder, W: Replies>(
     rt: &T,
     alloc: Global,
@@ -105,7 +106,6 @@ fn run_numbers<T: Threads + Sync, F: Folder, W: Replies>(
 {
     match query.by {
         Some(_) => run_pairs(rt, alloc, folder, &query, writer),
-        None if query.csv => refuse(writer, NoAnswer::Column),
         None => run_counts(rt, alloc, folder, query, writer),
     }
 }

@@ -29,6 +29,12 @@ use std::sync::Wait;
 use std::thread::Threads;
 use std::time::Clock;
 
+/// What is told of a digest that has not 64 digits, as `clap` tells of another value.
+const NO_DIGEST: &str = "\
+error: the value of '--digest <HEX>' is not 64 hexadecimal digits
+
+For more information, try '--help'.";
+
 /// Runs the command that the words name, over the folders of the host. The first word is the program's
 /// own name. What the command prints goes to the output, and the text of `clap` to the errors. It takes
 /// memory for the words, and for what the commands read and build; want of it is a refusal.
@@ -97,8 +103,12 @@ fn run_understood<
 {
     match request_of(matches) {
         Some(request) => run_request(rt, alloc, host, request, streams),
-        // `clap` lets no other command through.
-        None => 2,
+        // `clap` lets all else through only if it is a request.
+        None => {
+            // There is nowhere to say that this could not be written.
+            print(&mut streams.errors, &NO_DIGEST);
+            2
+        }
     }
 }
 
@@ -137,7 +147,9 @@ fn run_request<
         Request::Rank { board } => run_rank(board, &mut streams.output),
         Request::Board { level, rank } => run_board(level, rank, &mut streams.output),
         Request::Plays { board, plies } => run_plays(alloc, board, plies, &mut streams.output),
-        Request::Build(query) if query.estimate => run_estimate(host, query, &mut streams.errors),
+        Request::Build(query) if query.estimate => {
+            run_estimate(host, query, &mut streams.output, &mut streams.errors)
+        }
         Request::Build(query) => run_build_asked(rt, alloc, host, query, streams),
         Request::Migrate { from, to } => {
             run_migration(alloc, host, Migration { from, to }, streams)

@@ -2,6 +2,7 @@
 //! above them.
 
 ghost use Rattle.std.specs.Prelude.{◌≡◌, ◌≤◌, ◌<◌, ◌+◌, ◌↔◌, ℕ, [], length, Ok, Err, IsOk, IfOk, OnOk};
+ghost use Rattle.awari_build.specs.declared.teams.Team.{Team as ATeam};
 ghost use Rattle.awari_desk.specs.Desks.{book_of};
 ghost use Rattle.awari_folder.specs.Contents.{Same};
 ghost use Rattle.awari_table.specs.Shelves.{Consistent, IsShelf};
@@ -10,7 +11,7 @@ ghost use Rattle.awari_cli.specs.declared.faults.CommandFault.{CommandFault as A
 
 use crate::faults::CommandFault;
 use crate::lasting::{WhileServed, lasting_service};
-use crate::ways::{Way, build_by, way_of};
+use crate::ways::{Way, build_by};
 use awari_answers::{Replies, Streams, refuse};
 use awari_build::{BuildFault, Pace};
 use awari_desk::{DeskFault, Publisher, Reader, ServeFault, desk, serve};
@@ -24,6 +25,7 @@ use std::alloc::Global;
 use std::io::{Read, Write};
 use std::sync::{Arc, Wait};
 use std::thread::{self, Promise, Threads};
+use std::time::Clock;
 
 /// How the building beside a service has ended.
 #[derive(Clone, Copy)]
@@ -51,7 +53,7 @@ struct Grower<T> {
 /// Once nobody can ask any more, the thread stops at the next gain, distance or round, and that is no
 /// refusal. So nothing is promised of the levels above the folder's but that each answer is right.
 pub fn run_serve<
-    T: Threads + Wait + Sync + Send + Clone + Drop + 'static,
+    T: Threads + Clock + Wait + Sync + Send + Clone + Drop + 'static,
     F: Folder,
     R: Read,
     W: Replies,
@@ -78,7 +80,7 @@ pub fn run_serve<
 /// Serves while a thread builds, has that stop when the service has ended, and joins it. The refusal
 /// of the service comes before that of the thread.
 fn serve_beside<
-    T: Threads + Wait + Sync + Send + Clone + Drop + 'static,
+    T: Threads + Clock + Wait + Sync + Send + Clone + Drop + 'static,
     F: Folder,
     R: Read,
     W: Write,
@@ -117,9 +119,9 @@ fn serve_beside<
 /// What builds levels as `query` says: by this many owners, or by all processors together if there are none.
 fn grower_for<T: Threads>(rt: T, alloc: Global, query: ServeQuery, wanted: WhileServed) -> Grower<T>
     ensures owners { 0 < query.owners → result.way ≡ Way.Owners (record { owners = query.owners; room = 64; sweeps = 1000 }) }
-    ensures together { query.owners ≡ 0 → (threads : ℕ) × (result.way ≡ Way.Together threads) }
+    ensures together { query.owners ≡ 0 → (team : ATeam) × (result.way ≡ Way.Together team) }
 {
-    let way = way_of(current_num_threads(&rt), Pace::usual(query.owners));
+    let way = Way::of(current_num_threads(&rt), Pace::usual(query.owners));
     Grower {
         rt,
         alloc,
@@ -170,7 +172,7 @@ fn published<T: Wait + Drop>(
     let Some(mut reader) = readers.pop() else {
         unreachable!()
     };
-    reader.learn(publisher.pages.tell()?);
+    reader.learn(publisher.tell()?);
     Ok((publisher, reader))
 }
 
@@ -217,14 +219,14 @@ fn served_by<R: Read, W: Write>(
 
 /// Builds the levels above the book up to `top`, and publishes each. It is refused as 52 with 43 once
 /// the levels are not wanted any more.
-fn grow<T: Threads + Wait + Sync + Drop>(
+fn grow<T: Threads + Clock + Wait + Sync + Send + Clone + Drop + 'static>(
     mut grower: Grower<T>,
     mut publisher: Publisher<T>,
     top: u8,
 ) -> (Publisher<T>, Result<(), CommandFault>)
     ensures { OnOk result.1 (IsShelf (book_of result.0.pages) × (top < length (book_of result.0.pages))) }
 {
-    'level: while publisher.pages.book().levels() <= top {
+    'level: while publisher.book().levels() <= top {
         if let Err(fault) = grow_by_one(&mut grower, &mut publisher) {
             return (publisher, Err(fault));
         }
@@ -233,25 +235,30 @@ fn grow<T: Threads + Wait + Sync + Drop>(
 }
 
 /// Builds the level above the book, and publishes it.
-fn grow_by_one<T: Threads + Wait + Sync + Drop>(
+fn grow_by_one<T: Threads + Clock + Wait + Sync + Send + Clone + Drop + 'static>(
     grower: &mut Grower<T>,
     publisher: &mut Publisher<T>,
 ) -> Result<(), CommandFault>
     ensures { OnOk result (length (book_of publisher.new.pages) ≡ length (book_of publisher.old.pages) + 1) }
 {
-    let level = next_level(grower, publisher.pages.book())?;
+    let level = next_level(grower, publisher.book())?;
     let level = Arc::new(grower.alloc, level).map_err(|_| DeskFault::Memory)?;
     publisher.publish(level)?;
     Ok(())
 }
 
 /// The level above the book.
-fn next_level<T: Threads + Wait + Sync>(
+fn next_level<T: Threads + Clock + Wait + Sync + Send + Clone + Drop + 'static>(
     grower: &mut Grower<T>,
     book: &Shelf,
 ) -> Result<Level, BuildFault>
     ensures { IfOk result (λ level. Consistent book.now level) }
 {
-    let wanted = &mut grower.wanted;
-    build_by(&grower.rt, grower.alloc, book, grower.way, wanted)
+    let Grower {
+        rt,
+        alloc,
+        way,
+        wanted,
+    } = grower;
+    build_by(&*rt, *alloc, book, way, wanted)
 }

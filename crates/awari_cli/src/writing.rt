@@ -1,6 +1,7 @@
 //! Commands that write into folders of the host: `build` and `migrate`.
 
-ghost use Rattle.std.specs.Prelude.{◌≡◌, ◌≢◌, ◌≤◌, ℕ, List, Option, Some};
+ghost use Rattle.std.specs.Prelude.{◌≡◌, ◌≢◌, ◌≤◌, ◌<◌, ℕ, List, Option, Some, false};
+ghost use Rattle.std.specs.Io.KnownBytes.{Keeps};
 ghost use Rattle.awari_cli.specs.Building.{KeepsLevels, PrintsAllLevels, PrintsLevels};
 ghost use Rattle.awari_cli.specs.Done.{IsFolder, LeavesFolders, PrintsBrought, PrintsBuild, PrintsBuilt};
 ghost use Rattle.awari_host.specs.Hosts.{AllStay, OthersStay};
@@ -11,9 +12,10 @@ use crate::building::{Builder, build_up_in, run_build};
 use crate::estimates::{Estimate, warn_of_memory};
 use crate::migrating::run_migrate;
 use crate::progress::{HowTold, ProgressLines};
+use crate::ways::Way;
 use awari_answers::{Replies, Streams, load_watched, print, refuse};
-use awari_folder::Folder;
-use awari_heard::{Progress, Silent};
+use awari_folder::{Folder, FolderFault};
+use awari_heard::Silent;
 use awari_host::{Host, Purpose};
 use awari_words::BuildQuery;
 use rayon::current_num_threads;
@@ -51,7 +53,7 @@ struct BuildIn<'a> {
 /// Builds the levels that are asked for, in the folder if one is named.
 pub(crate) fn run_build_asked<
     'a,
-    T: Threads + Clock + Wait + Sync,
+    T: Threads + Clock + Wait + Sync + Send + Clone + Drop + 'static,
     H: Host<'a>,
     R: Read,
     W: Replies,
@@ -64,6 +66,7 @@ pub(crate) fn run_build_asked<
 {
     let anew = host.machine().on_terminal;
     let build = Build { query, anew };
+    tell_unused_threads(query, &mut streams.errors);
     match query.folder {
         None => {
             tell_needs(host, 0, build, &mut streams.errors);
@@ -74,12 +77,12 @@ pub(crate) fn run_build_asked<
 }
 
 /// Builds the levels that are asked for.
-fn run_build_alone<T: Threads + Clock + Wait + Sync, R: Read, W: Replies, E: Write>(
-    rt: &T,
-    alloc: Global,
-    build: Build<'_>,
-    streams: &mut Streams<R, W, E>,
-) -> u8
+fn run_build_alone<
+    T: Threads + Clock + Wait + Sync + Send + Clone + Drop + 'static,
+    R: Read,
+    W: Replies,
+    E: Write,
+>(rt: &T, alloc: Global, build: Build<'_>, streams: &mut Streams<R, W, E>) -> u8
     ensures status { result ≤ 1 }
     ensures built { result ≡ 0 → PrintsAllLevels build.entry.query.top (W.contents streams.old.output) (W.contents streams.new.output) }
 {
@@ -87,18 +90,33 @@ fn run_build_alone<T: Threads + Clock + Wait + Sync, R: Read, W: Replies, E: Wri
         let mut lines = ProgressLines::new(rt, &mut streams.errors, build.how_told());
         let mut builder = builder_for(rt, alloc, build, &mut lines);
         let status = run_build(&mut builder, build.query.top, &mut streams.output);
+        let way = builder.way;
         lines.end(status);
+        tell_if_given_up(way, &mut streams.errors);
         return status;
     }
     let mut silent = Silent;
     let mut builder = builder_for(rt, alloc, build, &mut silent);
-    run_build(&mut builder, build.query.top, &mut streams.output)
+    let status = run_build(&mut builder, build.query.top, &mut streams.output);
+    tell_if_given_up(builder.way, &mut streams.errors);
+    status
+}
+
+/// Tells `errors` that one thread built some levels in place of several, if it was so.
+fn tell_if_given_up<E: Write>(way: Way, errors: &mut E) {
+    if way.gave_up() {
+        // There is nowhere to say that this could not be written.
+        print(
+            errors,
+            &format_args!("the processors are busy, so one thread built some levels alone"),
+        );
+    }
 }
 
 /// Builds the levels that are asked for in the folder of this name.
 fn run_build_on<
     'a,
-    T: Threads + Clock + Wait + Sync,
+    T: Threads + Clock + Wait + Sync + Send + Clone + Drop + 'static,
     H: Host<'a>,
     R: Read,
     W: Replies,
@@ -131,13 +149,13 @@ fn run_build_on<
 }
 
 /// Builds the levels that are asked for in this folder.
-fn run_build_of<T: Threads + Clock + Wait + Sync, F: Folder, R: Read, W: Replies, E: Write + Send>(
-    rt: &T,
-    alloc: Global,
-    folder: &mut F,
-    build: Build<'_>,
-    streams: &mut Streams<R, W, E>,
-) -> u8
+fn run_build_of<
+    T: Threads + Clock + Wait + Sync + Send + Clone + Drop + 'static,
+    F: Folder,
+    R: Read,
+    W: Replies,
+    E: Write + Send,
+>(rt: &T, alloc: Global, folder: &mut F, build: Build<'_>, streams: &mut Streams<R, W, E>) -> u8
     ensures status { result ≤ 1 }
     ensures kept { KeepsFiles (F.state folder.old).stands (F.state folder.new).stands }
     ensures keeps { (names : ℕ → Option (List ℕ)) → AreNames (F.state folder.old).stands names
@@ -159,12 +177,16 @@ fn run_build_of<T: Threads + Clock + Wait + Sync, F: Folder, R: Read, W: Replies
         let mut lines = ProgressLines::new(rt, &mut streams.errors, build.how_told());
         let mut builder = builder_for(rt, alloc, build, &mut lines);
         let status = build_up_in(&mut builder, folder, build.query.top, &mut stored, output);
+        let way = builder.way;
         lines.end(status);
+        tell_if_given_up(way, &mut streams.errors);
         return status;
     }
     let mut silent = Silent;
     let mut builder = builder_for(rt, alloc, build, &mut silent);
-    build_up_in(&mut builder, folder, build.query.top, &mut stored, output)
+    let done = build_up_in(&mut builder, folder, build.query.top, &mut stored, output);
+    tell_if_given_up(builder.way, &mut streams.errors);
+    done
 }
 
 /// Tells `errors` what a build of the levels from `first` on takes, if its progress is asked for, and if less
@@ -178,16 +200,33 @@ fn tell_needs<'a, H: Host<'a>, E: Write>(host: &H, first: u8, build: Build<'_>, 
     warn_of_memory(estimate, host.machine().memory_left, errors);
 }
 
-/// Tells `errors` what a build would take, and builds nothing.
-pub(crate) fn run_estimate<'a, H: Host<'a>, E: Write>(
+/// Tells `errors` if threads are asked for beside owners, who are threads of their own.
+fn tell_unused_threads<E: Write>(query: BuildQuery<'_>, errors: &mut E) {
+    if query.threads.is_some() && query.pace.owners > 0 {
+        // There is nowhere to say that this could not be written.
+        print(
+            errors,
+            &"--threads is not used, since owners build the levels",
+        );
+    }
+}
+
+/// Tells `errors` what a build would take, and builds nothing. It is refused as 82 if the folder in which it
+/// would build is not there.
+pub(crate) fn run_estimate<'a, H: Host<'a>, W: Replies, E: Write>(
     host: &mut H,
     query: BuildQuery<'a>,
+    output: &mut W,
     errors: &mut E,
 ) -> u8
-    ensures status { result ≡ 0 }
+    ensures status { result ≤ 1 }
     ensures same { AllStay H.keeps (H.holds host.old) (H.holds host.new) }
+    ensures nothing { result ≡ 0 → Keeps (W.contents output.old) (W.contents output.new) }
 {
-    let first = first_to_build(host, query.folder, errors);
+    let first = match first_to_build(host, query.folder, errors) {
+        Ok(first) => first,
+        Err(fault) => return refuse(output, fault),
+    };
     let estimate = Estimate::of(first, query.top);
     // There is nowhere to say that this could not be written.
     print(errors, &estimate);
@@ -195,38 +234,44 @@ pub(crate) fn run_estimate<'a, H: Host<'a>, E: Write>(
     0
 }
 
-/// The first level that a build in the folder of this name begins with, or one without a folder.
+/// The first level that a build in the folder of this name begins with, or one without a folder. It is refused
+/// as 82 if the folder is not there.
 fn first_to_build<'a, H: Host<'a>, E: Write>(
     host: &mut H,
     folder: Option<&'a str>,
     errors: &mut E,
-) -> u8
+) -> Result<u8, FolderFault>
     ensures { AllStay H.keeps (H.holds host.old) (H.holds host.new) }
 {
     let Some(name) = folder else {
-        return 0;
+        return Ok(0);
     };
     let folder = host.open(name, Purpose::Write, errors);
     let first = host.levels_in(&folder);
     host.close(name, folder);
-    first
+    if host.is_there(name) {
+        Ok(first)
+    } else {
+        Err(FolderFault::Open { level: 0 })
+    }
 }
 
-/// What builds the levels that are asked for: at the pace and by the threads that are asked for.
-fn builder_for<'a, T: Threads, P: Progress>(
+/// What builds the levels that are asked for: by the owners or by the threads that are asked for.
+fn builder_for<'a, T: Threads, P>(
     rt: &'a T,
     alloc: Global,
     build: Build<'_>,
     progress: &'a mut P,
 ) -> Builder<'a, T, P>
-    ensures pace { result.pace ≡ build.entry.query.pace }
-    ensures threads { (threads : ℕ) → build.entry.query.threads ≡ Some threads → result.threads ≡ threads }
+    ensures owners { 0 < build.entry.query.pace.owners → result.way ≡ Way.Owners build.entry.query.pace }
+    ensures threads { (threads : ℕ) → build.entry.query.threads ≡ Some threads → build.entry.query.pace.owners ≡ 0
+        → result.way ≡ Way.Together (record { threads = threads; rest = 0; gave_up = false }) }
 {
+    let way = Way::of(threads_of(rt, build.query.threads), build.query.pace);
     Builder {
         rt,
         alloc,
-        threads: threads_of(rt, build.query.threads),
-        pace: build.query.pace,
+        way,
         progress,
     }
 }

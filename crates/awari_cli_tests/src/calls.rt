@@ -12,6 +12,7 @@ use std::str;
 use std::sync::Wait;
 use std::test::Fail;
 use std::thread::Threads;
+use std::time::Clock;
 
 const LEVEL_1: &str = "level 1 boards 12 won 5 even 0 lost 7 limit 1\n";
 
@@ -48,7 +49,7 @@ fn expect_printed(rt: &impl Abort, (output, status): (&[u8], u8), printed: &str,
 
 /// Builds up to level 1 in the folder, and compares what is printed and the status.
 fn expect_build(
-    rt: &(impl Abort + AllocGlobal + Threads + Wait + Sync),
+    rt: &(impl Abort + AllocGlobal + Threads + Clock + Wait + Sync + Send + Clone + Drop + 'static),
     folder: &mut MemoryFolder,
     printed: &str,
     expected: u8,
@@ -60,7 +61,7 @@ fn expect_build(
 
 /// Verifies the folder, and compares what is printed and the status.
 fn expect_verify(
-    rt: &(impl Abort + AllocGlobal + Threads + Wait + Sync),
+    rt: &(impl Abort + AllocGlobal + Threads + Clock + Wait + Sync + Send + Clone + Drop + 'static),
     folder: &mut MemoryFolder,
     printed: &str,
     expected: u8,
@@ -78,7 +79,7 @@ fn expect_no_draft(rt: &impl Abort, folder: &MemoryFolder) {
 /// Builds in an empty folder of which the call of this number is refused, and then once more: the
 /// second time the rest is built.
 fn expect_both(
-    rt: &(impl Abort + AllocGlobal + Threads + Wait + Sync),
+    rt: &(impl Abort + AllocGlobal + Threads + Clock + Wait + Sync + Send + Clone + Drop + 'static),
     call: u32,
     printed: &str,
     status: u8,
@@ -107,7 +108,7 @@ fn each_call_of_a_build_is_refused(rt: HostRuntime) {
 
 /// A build whose new file refuses this writes nothing.
 fn expect_not_written(
-    rt: &(impl Abort + AllocGlobal + Threads + Wait + Sync),
+    rt: &(impl Abort + AllocGlobal + Threads + Clock + Wait + Sync + Send + Clone + Drop + 'static),
     folder: &mut MemoryFolder,
     (writes, sync): (bool, bool),
 ) {
@@ -179,7 +180,7 @@ fn a_faulty_folder_stays_as_it_was(rt: HostRuntime) -> Result<(), Fail> {
 
 /// A folder in which level 1 alone has a file, of these bytes.
 fn folder_with_a_gap(
-    rt: &(impl Abort + AllocGlobal + Threads + Wait + Sync),
+    rt: &(impl Abort + AllocGlobal + Threads + Clock + Wait + Sync + Send + Clone + Drop + 'static),
     second: &[u8],
 ) -> Result<MemoryFolder, Fail> {
     let mut folder = memory_folder(rt.alloc());
@@ -189,7 +190,7 @@ fn folder_with_a_gap(
 
 /// The files of levels 0 and 1.
 pub(crate) fn two_files(
-    rt: &(impl Abort + AllocGlobal + Threads + Wait + Sync),
+    rt: &(impl Abort + AllocGlobal + Threads + Clock + Wait + Sync + Send + Clone + Drop + 'static),
 ) -> Result<(Vec<u8>, Vec<u8>), Fail> {
     let mut folder = memory_folder(rt.alloc());
     expect_build(rt, &mut folder, LEVELS_0_TO_1, 0);
@@ -215,7 +216,7 @@ fn a_right_file_above_a_gap_counts_as_saved(rt: HostRuntime) -> Result<(), Fail>
 
 /// A file above a gap that is not the right one is not replaced.
 fn expect_occupied(
-    rt: &(impl Abort + AllocGlobal + Threads + Wait + Sync),
+    rt: &(impl Abort + AllocGlobal + Threads + Clock + Wait + Sync + Send + Clone + Drop + 'static),
     first: &[u8],
     other: &[u8],
 ) -> Result<(), Fail> {
@@ -245,7 +246,7 @@ fn another_file_above_a_gap_stays(rt: HostRuntime) -> Result<(), Fail> {
 
 /// What `ask` and `line` print of a board and their status, where the folder refuses a call.
 fn expect_no_answer(
-    rt: &(impl Abort + AllocGlobal + Threads + Wait + Sync),
+    rt: &(impl Abort + AllocGlobal + Threads + Clock + Wait + Sync + Send + Clone + Drop + 'static),
     folder: &mut MemoryFolder,
     board: &str,
 ) {

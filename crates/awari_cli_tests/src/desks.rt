@@ -50,7 +50,7 @@ fn expect_told<R: Wait + Drop>(
     let low = Board::parse(b"0,0,0,0,0,1/0,0,0,0,0,0")?;
     let high = Board::parse(b"1,0,0,0,0,0/1,0,0,0,0,0")?;
     expect_equal(rt, "seen", reader.seen(), 0);
-    reader.learn(publisher.pages.tell()?);
+    reader.learn(publisher.tell()?);
     expect_equal(rt, "seen", reader.seen(), 2);
     expect_equal(rt, low, reader.ask(&low), Ok(LOST));
     expect_equal(
@@ -90,7 +90,7 @@ fn expect_not_next<R: Wait + Drop>(
     rt: &impl Abort,
     publisher: &mut Publisher<R>,
 ) -> Result<(), Fail> {
-    let book = publisher.pages.book();
+    let book = publisher.book();
     if book.levels() != 2 {
         return Err(Fail::from("another book"));
     }
@@ -100,7 +100,7 @@ fn expect_not_next<R: Wait + Drop>(
     }
     let answer = publisher.publish(again);
     expect_equal(rt, "level 1 again", answer, Err(DeskFault::NotNext));
-    expect_equal(rt, "levels", publisher.pages.book().levels(), 2);
+    expect_equal(rt, "levels", publisher.book().levels(), 2);
     Ok(())
 }
 
@@ -118,7 +118,7 @@ fn expect_longer<R: Wait + Drop>(
     reader: &mut Reader,
 ) -> Result<(), Fail> {
     let high = Board::parse(b"1,0,0,0,0,0/1,0,0,0,0,0")?;
-    let told = publisher.pages.tell()?;
+    let told = publisher.tell()?;
     publish_next(alloc, publisher)?;
     expect_even(rt, reader, &high);
     reader.learn(told);
@@ -127,18 +127,23 @@ fn expect_longer<R: Wait + Drop>(
     Ok(())
 }
 
-/// A desk of one reader has one more place, for what is told.
+/// A desk has a place for each book of which is told, and not for one more.
 fn expect_places<R: Wait + Drop>(
     rt: &impl Abort,
+    alloc: Global,
     publisher: &mut Publisher<R>,
     reader: &mut Reader,
 ) -> Result<(), Fail> {
-    let told = publisher.pages.tell()?;
-    let refused = publisher.pages.tell().err();
-    expect_equal(rt, "a second telling", refused, Some(DeskFault::Readers));
-    reader.learn(told);
-    drop(publisher.pages.tell()?);
-    drop(publisher.pages.tell()?);
+    let mut all = Vec::new(alloc);
+    for _book in 0..26u8 {
+        all.push(publisher.tell()?)?;
+    }
+    let refused = publisher.tell().err();
+    expect_equal(rt, "one more telling", refused, Some(DeskFault::Readers));
+    if let Some(told) = all.pop() {
+        reader.learn(told);
+    }
+    drop(publisher.tell()?);
     Ok(())
 }
 
@@ -162,7 +167,8 @@ fn expect_learning<R: Wait + Drop>(
     expect_told(rt, publisher, reader)?;
     expect_not_next(rt, publisher)?;
     expect_longer(rt, alloc, publisher, reader)?;
-    expect_places(rt, publisher, reader)
+    expect_equal(rt, "stuck", publisher.is_stuck(), false);
+    expect_places(rt, alloc, publisher, reader)
 }
 
 #[test]

@@ -59,6 +59,10 @@ impl<'a> Host<'a> for MemoryHost {
         empty
     }
 
+    fn is_there(&self, _name: &'a str) -> bool {
+        true
+    }
+
     fn levels_in(&self, _folder: &MemoryFolder) -> u8 {
         0
     }

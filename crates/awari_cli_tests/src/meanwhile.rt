@@ -11,6 +11,7 @@ use std::process::Abort;
 use std::str;
 use std::sync::Wait;
 use std::thread::Threads;
+use std::time::Clock;
 
 const LEVEL_1: &str = "level 1 boards 12 won 5 even 0 lost 7 limit 1\n";
 
@@ -61,7 +62,7 @@ impl BuildProgress for Wanting {}
 /// Builds up to level 1 by this many threads, and compares what is printed, the status, and how many levels
 /// were begun.
 fn expect_build(
-    rt: &(impl Abort + AllocGlobal + Threads + Wait + Sync),
+    rt: &(impl Abort + AllocGlobal + Threads + Clock + Wait + Sync + Send + Clone + Drop + 'static),
     threads: usize,
     folder: &mut MemoryFolder,
     top: usize,

@@ -5,8 +5,8 @@
 use awari_build::Pace;
 use awari_cli::{
     AskQuery, BuildProgress, Builder, Disk, HowTold, LineQuery, MovesQuery, ProgressLines, Replies,
-    ServeQuery, Streams, VerifyQuery, run, run_ask, run_build_in, run_line, run_moves, run_serve,
-    run_text, run_verify,
+    ServeQuery, Streams, VerifyQuery, Way, run, run_ask, run_build_in, run_line, run_moves,
+    run_serve, run_text, run_verify,
 };
 use awari_file_tests::MemoryFolder;
 use awari_folder::Folder;
@@ -51,7 +51,7 @@ pub(crate) fn has_draft(folder: &MemoryFolder) -> bool {
 
 /// Builds up to level 1 in the folder without owners, and gives the status.
 pub(crate) fn build(
-    rt: &(impl AllocGlobal + Threads + Wait + Sync),
+    rt: &(impl AllocGlobal + Threads + Clock + Wait + Sync + Send + Clone + Drop + 'static),
     folder: &mut MemoryFolder,
     output: &mut impl Replies,
 ) -> u8 {
@@ -60,7 +60,7 @@ pub(crate) fn build(
 
 /// Builds up to this level in the folder by two threads together, and gives the status.
 fn build_to(
-    rt: &(impl AllocGlobal + Threads + Wait + Sync),
+    rt: &(impl AllocGlobal + Threads + Clock + Wait + Sync + Send + Clone + Drop + 'static),
     folder: &mut MemoryFolder,
     top: u8,
     progress: &mut (impl BuildProgress + Send),
@@ -69,8 +69,7 @@ fn build_to(
     let mut builder = Builder {
         rt,
         alloc: rt.alloc(),
-        threads: 2,
-        pace: OWNERLESS,
+        way: Way::of(2, OWNERLESS),
         progress,
     };
     run_build_in(&mut builder, folder, top, output)
@@ -78,7 +77,7 @@ fn build_to(
 
 /// Builds up to level 1 in the folder by this many threads together, and gives the status.
 pub(crate) fn build_by(
-    rt: &(impl AllocGlobal + Threads + Wait + Sync),
+    rt: &(impl AllocGlobal + Threads + Clock + Wait + Sync + Send + Clone + Drop + 'static),
     threads: usize,
     folder: &mut MemoryFolder,
     progress: &mut (impl BuildProgress + Send),
@@ -87,8 +86,7 @@ pub(crate) fn build_by(
     let mut builder = Builder {
         rt,
         alloc: rt.alloc(),
-        threads,
-        pace: OWNERLESS,
+        way: Way::of(threads, OWNERLESS),
         progress,
     };
     run_build_in(&mut builder, folder, 1, output)
@@ -96,7 +94,7 @@ pub(crate) fn build_by(
 
 /// Builds up to this level without owners, tells on this stream how far it is, and gives the status.
 pub(crate) fn build_telling(
-    rt: &(impl AllocGlobal + Threads + Wait + Sync),
+    rt: &(impl AllocGlobal + Threads + Clock + Wait + Sync + Send + Clone + Drop + 'static),
     clock: &(impl Clock + Sync),
     how: HowTold,
     errors: &mut Vec<u8>,
@@ -109,7 +107,7 @@ pub(crate) fn build_telling(
 
 /// Verifies the folder, and gives the status.
 pub(crate) fn verified(
-    rt: &(impl AllocGlobal + Threads + Wait + Sync),
+    rt: &(impl AllocGlobal + Threads + Clock + Wait + Sync + Send + Clone + Drop + 'static),
     folder: &mut MemoryFolder,
     output: &mut impl Replies,
 ) -> u8 {
@@ -123,7 +121,7 @@ pub(crate) fn verified(
 
 /// Verifies the folder as it is wished, and gives the status.
 pub(crate) fn verified_as(
-    rt: &(impl AllocGlobal + Threads + Wait + Sync),
+    rt: &(impl AllocGlobal + Threads + Clock + Wait + Sync + Send + Clone + Drop + 'static),
     folder: &mut MemoryFolder,
     query: VerifyQuery<'_>,
     output: &mut impl Replies,
@@ -139,7 +137,7 @@ pub(crate) fn verified_as(
 
 /// Asks the folder for a board, and gives the status.
 pub(crate) fn asked(
-    rt: &(impl AllocGlobal + Threads + Wait + Sync),
+    rt: &(impl AllocGlobal + Threads + Clock + Wait + Sync + Send + Clone + Drop + 'static),
     folder: &mut MemoryFolder,
     board: &str,
     output: &mut Vec<u8>,
@@ -154,7 +152,7 @@ pub(crate) fn asked(
 
 /// Plays the line of a board by the folder, and gives the status.
 pub(crate) fn lined(
-    rt: &(impl AllocGlobal + Threads + Wait + Sync),
+    rt: &(impl AllocGlobal + Threads + Clock + Wait + Sync + Send + Clone + Drop + 'static),
     folder: &mut MemoryFolder,
     board: &str,
     output: &mut impl Replies,
@@ -171,7 +169,7 @@ pub(crate) fn lined(
 
 /// Says what the moves of a board are worth by the folder, and gives the status.
 pub(crate) fn weighed(
-    rt: &(impl AllocGlobal + Threads + Wait + Sync),
+    rt: &(impl AllocGlobal + Threads + Clock + Wait + Sync + Send + Clone + Drop + 'static),
     folder: &mut MemoryFolder,
     board: &str,
     output: &mut impl Replies,
@@ -187,7 +185,7 @@ pub(crate) fn weighed(
 
 /// Prints the text of the levels of the folder, and gives the status.
 pub(crate) fn texted(
-    rt: &(impl AllocGlobal + Threads + Wait + Sync),
+    rt: &(impl AllocGlobal + Threads + Clock + Wait + Sync + Send + Clone + Drop + 'static),
     folder: &mut MemoryFolder,
     output: &mut impl Replies,
 ) -> u8 {
@@ -196,7 +194,7 @@ pub(crate) fn texted(
 
 /// Prints the boards of level 1 of the folder, and gives the status.
 pub(crate) fn listed(
-    rt: &(impl AllocGlobal + Threads + Wait + Sync),
+    rt: &(impl AllocGlobal + Threads + Clock + Wait + Sync + Send + Clone + Drop + 'static),
     folder: &mut MemoryFolder,
     output: &mut impl Replies,
 ) -> u8 {
@@ -224,7 +222,7 @@ pub(crate) fn listed(
 
 /// Prints the boards of all levels of the folder, and gives the status.
 pub(crate) fn all_listed(
-    rt: &(impl AllocGlobal + Threads + Wait + Sync),
+    rt: &(impl AllocGlobal + Threads + Clock + Wait + Sync + Send + Clone + Drop + 'static),
     folder: &mut MemoryFolder,
     output: &mut impl Replies,
 ) -> u8 {
@@ -233,7 +231,7 @@ pub(crate) fn all_listed(
 
 /// Serves the folder while levels up to this one are built by this many owners, and gives the status.
 pub(crate) fn served(
-    rt: &(impl AllocGlobal + Threads + Wait + Sync + Send + Clone + Drop + 'static),
+    rt: &(impl AllocGlobal + Threads + Clock + Wait + Sync + Send + Clone + Drop + 'static),
     folder: &mut MemoryFolder,
     (top, owners): (u8, u8),
     input: &mut impl Read,

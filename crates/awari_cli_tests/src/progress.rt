@@ -100,7 +100,7 @@ const BESIDE_A_LINE: &str = "\
 
 /// Builds without owners, and compares what is told by this clock.
 fn expect_told(
-    rt: &(impl Abort + AllocGlobal + Threads + Wait + Sync),
+    rt: &(impl Abort + AllocGlobal + Threads + Clock + Wait + Sync + Send + Clone + Drop + 'static),
     clock: &(impl Clock + Sync),
     how: HowTold,
     expected: &str,

@@ -34,7 +34,7 @@ fn published<R: Wait + Drop>(
     alloc: Global,
     publisher: &mut Publisher<R>,
 ) -> Result<Result<(), DeskFault>, Fail> {
-    let level = build_alone(alloc, publisher.pages.book())?;
+    let level = build_alone(alloc, publisher.book())?;
     let level = Arc::new(alloc, level)?;
     Ok(publisher.publish(level))
 }
@@ -50,12 +50,12 @@ fn expect_published<R: Wait + Drop>(
 ) -> Result<(), Fail> {
     let mut answer = published(alloc, publisher)?;
     if answer == Err(DeskFault::Memory) {
-        let stays = (publisher.pages.book().levels(), reader.seen());
+        let stays = (publisher.book().levels(), reader.seen());
         expect_equal(rt, "levels and seen", stays, (number, number));
         answer = published(alloc, publisher)?;
     }
     expect_equal(rt, number, answer, Ok(()));
-    reader.learn(publisher.pages.tell()?);
+    reader.learn(publisher.tell()?);
     expect_equal(rt, "seen", reader.seen(), number.saturating_add(1));
     Ok(())
 }

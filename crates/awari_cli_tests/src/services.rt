@@ -194,7 +194,7 @@ pub(crate) fn publish_next<R: Wait + Drop>(
     alloc: Global,
     publisher: &mut Publisher<R>,
 ) -> Result<(), Fail> {
-    let level = build_alone(alloc, publisher.pages.book())?;
+    let level = build_alone(alloc, publisher.book())?;
     let level = Arc::new(alloc, level)?;
     publisher.publish(level)?;
     Ok(())
@@ -423,7 +423,7 @@ fn tell_two<R: Wait + Drop>(
     reader: &mut Reader,
 ) -> Result<(), Fail> {
     publish_two(alloc, publisher)?;
-    reader.learn(publisher.pages.tell()?);
+    reader.learn(publisher.tell()?);
     Ok(())
 }
 

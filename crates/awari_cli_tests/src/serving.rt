@@ -13,6 +13,7 @@ use std::io::{self, ErrorKind, Read, Write};
 use std::process::Abort;
 use std::sync::Wait;
 use std::thread::Threads;
+use std::time::Clock;
 
 /// A line that asks for a board, and the answer to it.
 type Asked = (&'static [u8], &'static [u8]);
@@ -69,7 +70,7 @@ impl Replies for Watching<'_> {}
 /// Serves an empty folder until the board is answered, while levels up to this one are built by so
 /// many owners.
 fn expect_answered(
-    rt: &(impl Abort + AllocGlobal + Threads + Wait + Sync + Send + Clone + Drop + 'static),
+    rt: &(impl Abort + AllocGlobal + Threads + Clock + Wait + Sync + Send + Clone + Drop + 'static),
     (line, answer): Asked,
     building: (u8, u8),
 ) {
@@ -108,7 +109,7 @@ fn a_builder_stops_when_the_service_has_ended(rt: HostRuntime) {
 
 /// Serves an empty folder with levels to be built far up, and is told to quit at once.
 fn expect_quit(
-    rt: &(impl Abort + AllocGlobal + Threads + Wait + Sync + Send + Clone + Drop + 'static),
+    rt: &(impl Abort + AllocGlobal + Threads + Clock + Wait + Sync + Send + Clone + Drop + 'static),
     owners: u8,
 ) {
     let mut input: &[u8] = b"quit\n";
@@ -130,7 +131,7 @@ const TOO_MANY_OWNERS: u8 = 17;
 
 /// Serves this input of an empty folder while the builder is refused, and compares what is printed.
 fn expect_refused(
-    rt: &(impl Abort + AllocGlobal + Threads + Wait + Sync + Send + Clone + Drop + 'static),
+    rt: &(impl Abort + AllocGlobal + Threads + Clock + Wait + Sync + Send + Clone + Drop + 'static),
     input: &mut impl Read,
     printed: &[u8],
 ) {
@@ -234,7 +235,7 @@ fn expect_passed(rt: &impl Abort, case: &str, output: &Passing, lines: u32) {
 
 /// Each answer of a service is passed on.
 fn expect_answers_passed(
-    rt: &(impl Abort + AllocGlobal + Threads + Wait + Sync + Send + Clone + Drop + 'static),
+    rt: &(impl Abort + AllocGlobal + Threads + Clock + Wait + Sync + Send + Clone + Drop + 'static),
     alloc: Global,
 ) {
     let mut output = Passing::new();
@@ -253,7 +254,7 @@ const BOARD: &str = "0,0,0,0,0,1/0,0,0,0,0,0";
 
 /// Each line of `build`, `verify` and of a refusal is passed on.
 fn expect_lines_passed(
-    rt: &(impl Abort + AllocGlobal + Threads + Wait + Sync + Send + Clone + Drop + 'static),
+    rt: &(impl Abort + AllocGlobal + Threads + Clock + Wait + Sync + Send + Clone + Drop + 'static),
     folder: &mut MemoryFolder,
 ) {
     let mut output = Passing::new();
@@ -270,7 +271,7 @@ fn expect_lines_passed(
 /// All lines of one answer are passed on at once. A text is written in more than one piece, each of
 /// whole lines.
 fn expect_answers_whole(
-    rt: &(impl Abort + AllocGlobal + Threads + Wait + Sync + Send + Clone + Drop + 'static),
+    rt: &(impl Abort + AllocGlobal + Threads + Clock + Wait + Sync + Send + Clone + Drop + 'static),
     folder: &mut MemoryFolder,
 ) {
     let mut output = Passing::new();
@@ -286,7 +287,7 @@ fn expect_answers_whole(
 
 /// The boards of a level, or of all levels, are passed on.
 fn expect_boards_passed(
-    rt: &(impl Abort + AllocGlobal + Threads + Wait + Sync + Send + Clone + Drop + 'static),
+    rt: &(impl Abort + AllocGlobal + Threads + Clock + Wait + Sync + Send + Clone + Drop + 'static),
     folder: &mut MemoryFolder,
 ) {
     let mut output = Passing::new();

@@ -19,6 +19,7 @@ use std::str;
 use std::sync::Wait;
 use std::test::Fail;
 use std::thread::Threads;
+use std::time::Clock;
 
 /// The board of rank 6 of level 1, whose value is -1, asked for by each request.
 const EACH_REQUEST: &str = "\
@@ -87,7 +88,7 @@ fn expect_said<F: Folder>(
 
 /// A folder with the right files of levels 0 and 1.
 fn right_folder(
-    rt: &(impl Abort + AllocGlobal + Threads + Wait + Sync),
+    rt: &(impl Abort + AllocGlobal + Threads + Clock + Wait + Sync + Send + Clone + Drop + 'static),
 ) -> Result<MemoryFolder, Fail> {
     let (first, second) = two_files(rt)?;
     folder_of(rt.alloc(), &first, &second)
@@ -138,7 +139,7 @@ fn a_file_of_another_form_is_refused_at_once(rt: HostRuntime) -> Result<(), Fail
 
 /// Serves files of which that of level 1 has this byte at this place.
 fn expect_changed(
-    rt: &(impl Abort + AllocGlobal + Threads + Wait + Sync),
+    rt: &(impl Abort + AllocGlobal + Threads + Clock + Wait + Sync + Send + Clone + Drop + 'static),
     (place, byte): (usize, u8),
     printed: &str,
 ) -> Result<(), Fail> {

@@ -10,6 +10,7 @@ use std::str;
 use std::sync::Wait;
 use std::test::Fail;
 use std::thread::Threads;
+use std::time::Clock;
 
 const RIGHT_LEVELS_0_TO_1: &str = "\
 level 0 ok limit 0
@@ -26,7 +27,7 @@ const ANY: VerifyQuery<'_> = VerifyQuery {
 
 /// What the error stream tells of levels 0 and 1 if these are wished, and the status.
 fn expect_wish(
-    rt: &(impl Abort + AllocGlobal + Threads + Wait + Sync),
+    rt: &(impl Abort + AllocGlobal + Threads + Clock + Wait + Sync + Send + Clone + Drop + 'static),
     folder: &mut MemoryFolder,
     query: VerifyQuery<'_>,
     told: &str,
@@ -42,7 +43,7 @@ fn expect_wish(
 
 /// What is told of levels 0 and 1 if levels up to this one are wished.
 fn expect_levels(
-    rt: &(impl Abort + AllocGlobal + Threads + Wait + Sync),
+    rt: &(impl Abort + AllocGlobal + Threads + Clock + Wait + Sync + Send + Clone + Drop + 'static),
     folder: &mut MemoryFolder,
     top: u8,
     told: &str,
@@ -54,7 +55,7 @@ fn expect_levels(
 
 /// What is told of levels 0 and 1 if this digest is wished.
 fn expect_digest(
-    rt: &(impl Abort + AllocGlobal + Threads + Wait + Sync),
+    rt: &(impl Abort + AllocGlobal + Threads + Clock + Wait + Sync + Send + Clone + Drop + 'static),
     folder: &mut MemoryFolder,
     digits: &str,
     told: &str,
@@ -65,7 +66,9 @@ fn expect_digest(
 }
 
 /// A folder in memory with levels 0 and 1.
-fn two_levels(rt: &(impl Abort + AllocGlobal + Threads + Wait + Sync)) -> MemoryFolder {
+fn two_levels(
+    rt: &(impl Abort + AllocGlobal + Threads + Clock + Wait + Sync + Send + Clone + Drop + 'static),
+) -> MemoryFolder {
     let mut folder = memory_folder(rt.alloc());
     let mut output = Vec::new(rt.alloc());
     expect_equal(rt, "built", build(rt, &mut folder, &mut output), 0);
@@ -76,12 +79,13 @@ fn two_levels(rt: &(impl Abort + AllocGlobal + Threads + Wait + Sync)) -> Memory
 fn levels_are_wished(rt: HostRuntime) -> Result<(), Fail> {
     let mut folder = two_levels(&rt);
     expect_levels(&rt, &mut folder, 1, "");
-    let fewer = "levels 0 to 0 were wished; the folder has levels 0 to 1\n";
+    let fewer = "levels 0 to 0 were asked for; the folder has levels 0 to 1\n";
     expect_levels(&rt, &mut folder, 0, fewer);
-    let more = "levels 0 to 2 were wished; the folder has levels 0 to 1\n";
+    let more = "levels 0 to 2 were asked for; the folder has levels 0 to 1\n";
     expect_levels(&rt, &mut folder, 2, more);
     lay(&mut folder, 24, b"")?;
-    let above = "levels 0 to 1 were wished; the folder has levels 0 to 1 and a file of level 24\n";
+    let above =
+        "levels 0 to 1 were asked for; the folder has levels 0 to 1 and a file of level 24\n";
     expect_levels(&rt, &mut folder, 1, above);
     Ok(())
 }
@@ -93,7 +97,7 @@ fn a_digest_is_wished(rt: HostRuntime) {
     expect_digest(&rt, &mut folder, digits, "");
     let large = "E5A9A57F6858A25BAAD0B0A5A6A39407E11A4315B2A1DF329EBEA00CEF062DEB";
     expect_digest(&rt, &mut folder, large, "");
-    let told = "digest e5a9 was wished; the folder has digest \
+    let told = "digest e5a9 was asked for; the folder has digest \
         e5a9a57f6858a25baad0b0a5a6a39407e11a4315b2a1df329ebea00cef062deb\n";
     expect_digest(&rt, &mut folder, "e5a9", told);
 }

@@ -12,5 +12,5 @@ returns-then-print-clause-saved g c =
 pub returns-then-print-clause-adds : goal.returns-then-print-clause-adds
 returns-then-print-clause-adds g c = adds_one c.args.level.now c.args.below _ _ c.save_or_keep.ensures.outcome.leaves c.save_or_keep.ensures.kept
 
-pub returns-clause-adds : goal.returns-clause-adds
-returns-clause-adds g c = adds_one c.args.level.now c.args.below _ _ c.save_or_keep.ensures.outcome.leaves c.save_or_keep.ensures.kept
+pub returns-else-print-clause-adds : goal.returns-else-print-clause-adds
+returns-else-print-clause-adds g c = adds_one c.args.level.now c.args.below _ _ c.save_or_keep.ensures.outcome.leaves c.save_or_keep.ensures.kept

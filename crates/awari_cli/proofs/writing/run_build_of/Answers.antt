@@ -11,10 +11,10 @@ returns-then-build-clause-built g c = λ done.
 
 pub returns-clause-built : goal.returns-clause-built
 returns-clause-built g c = λ done.
-    let b = c.build_up_in.ensures.built done in
-    prints_on (g.F.Folder.state c.args.folder.now).stands (g.F.Folder.state c.load_watched.new.folder).stands (g.F.Folder.state c.build_up_in.new.folder).stands c.args.build.query.top
-    c.in-Ok.stored.shelf c.build_up_in.new.stored.shelf c.in-Ok.stored.digest c.build_up_in.new.stored.digest _ _
-    c.in-Ok.ensures.stored c.in-Ok.ensures.reads.unchanged.stands (b.shelf, b.high) (λ held. c.build_up_in.ensures.holds held done)
+    let b = c.build_up_in-done.ensures.built done in
+    prints_on (g.F.Folder.state c.args.folder.now).stands (g.F.Folder.state c.load_watched.new.folder).stands (g.F.Folder.state c.build_up_in-done.new.folder).stands c.args.build.query.top
+    c.in-Ok.stored.shelf c.build_up_in-done.new.stored.shelf c.in-Ok.stored.digest c.build_up_in-done.new.stored.digest _ _
+    c.in-Ok.ensures.stored c.in-Ok.ensures.reads.unchanged.stands (b.shelf, b.high) (λ held. c.build_up_in-done.ensures.holds held done)
     b.planned b.built
 
 pub returns-then-build-clause-keeps : goal.returns-then-build-clause-keeps
@@ -24,7 +24,7 @@ returns-then-build-clause-keeps g c = keeps_on (g.F.Folder.state c.args.folder.n
     c.in-Ok.ensures.stored c.in-Ok.ensures.reads.unchanged.stands c.in-Ok.ensures.reads.unchanged.crash c.build_up_in-status.ensures.same c.build_up_in-status.ensures.crash
 
 pub returns-clause-keeps : goal.returns-clause-keeps
-returns-clause-keeps g c = keeps_on (g.F.Folder.state c.args.folder.now).stands (g.F.Folder.state c.load_watched.new.folder).stands (g.F.Folder.state c.build_up_in.new.folder).stands
-    (g.F.Folder.state c.args.folder.now).may_leave (g.F.Folder.state c.load_watched.new.folder).may_leave (g.F.Folder.state c.build_up_in.new.folder).may_leave c.args.build.query.top
+returns-clause-keeps g c = keeps_on (g.F.Folder.state c.args.folder.now).stands (g.F.Folder.state c.load_watched.new.folder).stands (g.F.Folder.state c.build_up_in-done.new.folder).stands
+    (g.F.Folder.state c.args.folder.now).may_leave (g.F.Folder.state c.load_watched.new.folder).may_leave (g.F.Folder.state c.build_up_in-done.new.folder).may_leave c.args.build.query.top
     c.in-Ok.stored.shelf c.in-Ok.stored.digest
-    c.in-Ok.ensures.stored c.in-Ok.ensures.reads.unchanged.stands c.in-Ok.ensures.reads.unchanged.crash c.build_up_in.ensures.same c.build_up_in.ensures.crash
+    c.in-Ok.ensures.stored c.in-Ok.ensures.reads.unchanged.stands c.in-Ok.ensures.reads.unchanged.crash c.build_up_in-done.ensures.same c.build_up_in-done.ensures.crash
