@@ -1,4 +1,5 @@
-/* Awari's endgame levels in a program. Link with libawari.a or libawari.so, which `bindings/make` builds.
+/* Awari's endgame levels in a program. Link with libawari.a or libawari.so, which `bindings/make` builds. This
+ * header is for C99 and C++11, and later.
  *
  * A call answers AWARI_OK, which is 0, or why it refuses. After a refusal nothing has changed but what is
  * said here. A board is the stones of its twelve pits, the mover's six first. A pit is 0 to 5.
@@ -14,6 +15,9 @@
  * handle and puts them back. `awari_share` makes a handle for each thread, and copies no level; such
  * handles may be used at once, and closed in any order. In mapped files any number of threads may look up
  * at once, without a handle.
+ *
+ * A mapped file that is cut off meanwhile ends the process by SIGBUS. `awari build` never cuts one off: it puts a
+ * new file in the place of the old one.
  *
  * Memory comes from `malloc` and goes back to `free`. No call is for a signal handler.
  */
@@ -179,13 +183,13 @@ typedef struct {
     size_t len;
 } awari_file;
 
-/* What the file of the board's level says of it: 0, 3, 59 (more than 24 stones) or 60 (not as long as that
- * file). Takes no memory. */
+/* What the file of the board's level says of it: 0, 3, 59 (more than 24 stones), 20 (as long as another
+ * level's file), or 60 or 67 (shorter or longer than it should be). Takes no memory. */
 uint8_t awari_probe_file(const uint8_t *bytes, size_t len, const uint8_t pits[12], awari_entry *out);
 
 /* What each pit is worth by the files of levels 0, 1 and so on, `count` of them: 0, 3, 59 (more than 24
- * stones, or no such file) or 60 (a file up to the board's level is not as long as it should be). Takes no
- * memory. */
+ * stones, or no such file), or 20, 60 or 67 of the first file up to the board's level that is not as long as
+ * it should be. Takes no memory. */
 uint8_t awari_probe_moves_files(const awari_file *files, size_t count, const uint8_t pits[12], awari_move out[6]);
 
 /* Whether these bytes are a level's file over the one that ends in `below`, 32 zeros for level 0: 0, with
@@ -203,11 +207,12 @@ typedef struct {
 } awari_files;
 
 /* Opens the levels of a folder with at most `most` stones, up to the first whose file is not there, into a
- * closed handle: 0, or as awari_add_level and awari_map refuse, and the handle is closed then. */
+ * closed handle: 0, or as awari_add_level and awari_map refuse, and the handle is closed then. It maps the
+ * files meanwhile. */
 uint8_t awari_open(const char *folder, unsigned most, awari_handle *handle, awari_fault *fault);
 
-/* Maps the files of these levels: 0, 82 (the folder, or a file, does not open or is none), or 81 with 68 (a
- * file is not mapped), and none is mapped then. It verifies nothing. */
+/* Maps the files of these levels: 0, 82 (the folder, or a file, does not open or is none; that of level 0 is not
+ * there), or 81 with 68 (a file is not mapped), and none is mapped then. It verifies nothing. */
 uint8_t awari_map(const char *folder, unsigned most, awari_files *files, awari_fault *fault);
 
 /* Gives the mapped files back. */

@@ -55,6 +55,14 @@ function expect(answer) {
   if (answer !== 0) throw new Refused(answer);
 }
 
+/** The bytes of a buffer or of a view of one, where they lie. */
+function bytesOf(file) {
+  if (ArrayBuffer.isView(file)) return new Uint8Array(file.buffer, file.byteOffset, file.byteLength);
+  const [, kind] = /^\[object (\w+)\]$/.exec(Object.prototype.toString.call(file));
+  if (kind === "ArrayBuffer" || kind === "SharedArrayBuffer") return new Uint8Array(file);
+  throw new TypeError(`The bytes of a file are an ArrayBuffer or a view of one, as a Uint8Array, and this is of the kind ${kind}`);
+}
+
 /** The module that lies beside this file. */
 async function shipped() {
   const place = new URL("awari.wasm", import.meta.url);
@@ -70,10 +78,13 @@ export class Levels {
   #pits;
   #out;
 
-  /** No level yet, by the module of these bytes, or by the one beside this file. */
+  /**
+   * No level yet, by the module of these bytes, or by this one, or by the one beside this file.
+   * @param {BufferSource | WebAssembly.Module} [module]
+   */
   static async start(module) {
-    const { instance } = await WebAssembly.instantiate(module ?? (await shipped()), {});
-    return new Levels(instance);
+    const made = await WebAssembly.instantiate(module ?? (await shipped()), {});
+    return new Levels(made instanceof WebAssembly.Instance ? made : made.instance);
   }
 
   /** By an instance of the module; `start` makes one. */
@@ -97,10 +108,10 @@ export class Levels {
 
   /**
    * Verifies the bytes of a file, and puts its level on. It is refused as 80, 81, 83, 84 or 86.
-   * @param {Uint8Array} file
+   * @param {ArrayBufferLike | ArrayBufferView} file
    */
   add(file) {
-    const answer = this.#lend(file, (place, length) =>
+    const answer = this.#lend(bytesOf(file), (place, length) =>
       this.#calls.awari_add_level(this.#handle, place, length, this.#out));
     if (answer === 0) return;
     const told = this.#view(8);

@@ -10,13 +10,18 @@ so what it says is right. `Levels.mapped` maps the files and verifies nothing. I
 truth if `awari verify` says yes to these files, or if their last digest is one that you trust.
 A refusal is a `Refused`, with the number and the name of docs/FORMATS.md.
 
+Any number of threads may ask one object, of either kind. In an interpreter without a global lock give each
+thread a `share` of its own.
+
 The calls that give or take arrays need numpy. The rest needs nothing.
 """
 from __future__ import annotations
 
 import ctypes
 import mmap
+import operator
 import os
+import stat
 import threading
 from math import comb
 from pathlib import Path
@@ -24,13 +29,14 @@ from struct import Struct
 from typing import NamedTuple, Sequence, Union
 
 HIGHEST_LEVEL = 24
+_LEVELS_ARE = f"a level is a whole number from 0 to {HIGHEST_LEVEL}"
 PITS = 12
 NO_PLAN = 255
 NAMES = {
     1: "Shape", 2: "Number", 3: "TooMany", 4: "NoPit", 5: "EmptyPit", 6: "MustFeed", 7: "Ended",
     20: "WrongLevel", 21: "WrongSize", 22: "Refused", 59: "NotYet", 60: "Truncated", 61: "Magic",
     62: "Version", 63: "LevelOutOfRange", 64: "Count", 65: "EntryForm", 66: "Digest", 67: "Trailing",
-    80: "Below", 81: "File", 82: "Open", 83: "Verify", 84: "Memory", 86: "Old",
+    68: "Read", 80: "Below", 81: "File", 82: "Open", 83: "Verify", 84: "Memory", 86: "Old",
 }
 
 Board = Union[str, Sequence[int]]
@@ -81,15 +87,22 @@ class Counts(NamedTuple):
 
 
 class Refused(Exception):
-    """A refusal: its number and name, and those of the fault inside it, if there is one."""
+    """A refusal: its number and name, and those of the fault inside it, if there is one.
 
-    def __init__(self, number: int, fault: _Fault | None = None):
-        self.number, self.name = number, NAMES[number]
+    With 82 the `path` is what does not open: the folder, or a file of it.
+    """
+
+    def __init__(self, number: int, fault: _Fault | None = None, path: str | None = None):
+        self.number, self.name, self.path, self._fault = number, NAMES[number], path, fault
         self.level = fault.level if fault and number != 84 else None
         self.inner = fault.inner if fault and fault.inner else None
         self.rule = f"V{fault.rule}" if fault and fault.rule else None
         self.rank = fault.rank if fault and fault.rule else None
         super().__init__(self._text())
+
+    def __reduce__(self):
+        # An exception is made anew of its text, which is no number.
+        return Refused, (self.number, self._fault, self.path)
 
     @property
     def sentence(self) -> str:
@@ -106,7 +119,7 @@ class Refused(Exception):
             text += f": {self.inner} {NAMES[self.inner]}"
         if self.rule is not None:
             text += f" rank {self.rank} rule {self.rule}"
-        return text
+        return text if self.path is None else f"{text}: {self.path}"
 
 
 class _Handle(ctypes.Structure):
@@ -130,6 +143,8 @@ _MOVE = Struct("<?BhI")
 _HEADER_BYTES = 52
 _ENTRY_BYTES = 6
 _LIMIT = Struct(">16xI")
+# No level has a greater limit: docs/levels.csv.
+_GREATEST_LIMIT = 194
 
 
 class _Scratch(threading.local):
@@ -138,10 +153,11 @@ class _Scratch(threading.local):
     def __init__(self) -> None:
         self.pits, self.after = ctypes.create_string_buffer(PITS), ctypes.create_string_buffer(PITS)
         self.entry, self.moves = ctypes.create_string_buffer(_ENTRY.size), ctypes.create_string_buffer(6 * _MOVE.size)
-        self.byte, self.size = ctypes.c_uint8(), ctypes.c_size_t()
+        self.byte, self.size, self.rank = ctypes.c_uint8(), ctypes.c_size_t(), ctypes.c_uint32()
         self.pits_at, self.after_at = ctypes.addressof(self.pits), ctypes.addressof(self.after)
         self.entry_at, self.moves_at = ctypes.addressof(self.entry), ctypes.addressof(self.moves)
         self.byte_at, self.size_at = ctypes.addressof(self.byte), ctypes.addressof(self.size)
+        self.rank_at = ctypes.addressof(self.rank)
 
 
 _AT, _SIZE, _BYTE = ctypes.c_void_p, ctypes.c_size_t, ctypes.c_uint8
@@ -149,43 +165,52 @@ _CALLS = {
     "awari_version": (ctypes.c_uint32, []),
     "awari_text_of": (None, [_BYTE, _AT]),
     "awari_parse": (_BYTE, [ctypes.c_char_p, _SIZE, _AT]),
+    "awari_legal": (_BYTE, [_AT]),
     "awari_play": (_BYTE, [_AT, _BYTE, _AT, _AT]),
-    "awari_add_level": (_BYTE, [_AT, _AT, _SIZE, _AT]),
+    "awari_rank": (_BYTE, [_AT, _AT, _AT]),
     "awari_levels": (_BYTE, [_AT]),
     "awari_probe": (_BYTE, [_AT, _AT, _AT]),
     "awari_probe_moves": (_BYTE, [_AT, _AT, _AT]),
-    "awari_probe_many": (_BYTE, [_AT, _AT, _SIZE, _AT, _SIZE, _AT]),
     "awari_line": (_BYTE, [_AT, _AT, _AT, _SIZE, _AT]),
     "awari_share_with": (_BYTE, [_AT, _AT]),
     "awari_close": (None, [_AT]),
     "awari_probe_file": (_BYTE, [_AT, _SIZE, _AT, _AT]),
     "awari_probe_moves_files": (_BYTE, [_AT, _SIZE, _AT, _AT]),
+}
+_LONG_CALLS = {
+    "awari_add_level": (_BYTE, [_AT, _AT, _SIZE, _AT]),
+    "awari_probe_many": (_BYTE, [_AT, _AT, _SIZE, _AT, _SIZE, _AT]),
     "awari_check_file": (_BYTE, [_AT, _SIZE, _AT, _AT]),
 }
 
 
-def _library() -> ctypes.CDLL:
-    """The library that the environment's LIBAWARI names, or that lies beside this file, or on the system's path."""
+def _library() -> tuple[ctypes.PyDLL, ctypes.CDLL]:
+    """The short calls and the long ones, of the library that the environment's LIBAWARI names, or that lies beside this file, or on the system's path.
+
+    A handle is for one call at a time. A short call keeps the interpreter's lock, so no thread comes between. A
+    long one leaves it to other threads, and has a handle that no other thread knows.
+    """
     here = Path(__file__).resolve().parent
     beside = [str(here / name) for name in ("libawari.so.0", "libawari.so") if (here / name).exists()]
     path = os.environ.get("LIBAWARI") or (beside or ["libawari.so.0"])[0]
     try:
-        library = ctypes.CDLL(path)
+        short, long = ctypes.PyDLL(path), ctypes.CDLL(path)
     except OSError as error:
         raise ImportError(
             f"{error}: `pip install ./bindings` packs libawari.so.0 with this module, `bindings/make` puts it beside "
             "it, and the environment's LIBAWARI may name it"
         ) from None
-    for name, (gives, takes) in _CALLS.items():
-        try:
-            function = getattr(library, name)
-        except AttributeError:
-            raise ImportError(f"{path} has no {name}: it is of another version than this module") from None
-        function.restype, function.argtypes = gives, takes
-    return library
+    for library, calls in ((short, _CALLS), (long, _LONG_CALLS)):
+        for name, (gives, takes) in calls.items():
+            try:
+                function = getattr(library, name)
+            except AttributeError:
+                raise ImportError(f"{path} has no {name}: it is of another version than this module") from None
+            function.restype, function.argtypes = gives, takes
+    return short, long
 
 
-_awari = _library()
+_awari, _awari_long = _library()
 _parse, _probe, _probe_moves, _probe_file = (
     _awari.awari_parse, _awari.awari_probe, _awari.awari_probe_moves, _awari.awari_probe_file,
 )
@@ -226,6 +251,7 @@ def _expect(answer: int, fault: _Fault | None = None) -> None:
 def play(board: Board, pit: int) -> tuple[list[int], int]:
     """The board after a move, as the other player sees it, and the stones captured."""
     at = _scratch
+    pit = _whole(pit, "a pit is a whole number from 0 to 5")
     _read(board, at.pits, at.pits_at)
     _expect(_awari.awari_play(at.pits_at, pit if 0 <= pit <= 255 else 255, at.after_at, at.byte_at))
     return list(at.after.raw), at.byte.value
@@ -233,7 +259,17 @@ def play(board: Board, pit: int) -> tuple[list[int], int]:
 
 def size(level: int) -> int:
     """How many boards a level has."""
+    if not 0 <= _whole(level, _LEVELS_ARE) <= HIGHEST_LEVEL:
+        raise ValueError(f"{_LEVELS_ARE}, and not {level}")
     return comb(level + PITS - 1, PITS - 1)
+
+
+def _whole(number, what: str) -> int:
+    """The number, which has to be a whole one."""
+    try:
+        return operator.index(number)
+    except TypeError:
+        raise TypeError(f"{what}, and not {number!r}") from None
 
 
 class _Answers:
@@ -266,14 +302,17 @@ class _Answers:
 
     def longest(self, board: Board) -> list[int]:
         """The play in which the losing side holds out, to the first capture or the end: as many plies as the distance."""
-        pits = []
-        for _ in range(self.entry(board).distance):
-            entry = self.entry(board)
+        pits, captures = [], 0
+        while (entry := self._judged(board)).distance and not captures:
             # The losing side plays its lowest pit that takes longest.
             pit = entry.plan if entry.value > 0 else next(m.pit for m in self.moves(board) if m.distance == entry.distance)
             pits.append(pit)
-            board, _ = play(board, pit)
+            board, captures = play(board, pit)
         return pits
+
+    def _judged(self, board: Board) -> Entry:
+        """What the levels say of a board, if it is right beside what they say of its moves."""
+        return self.entry(board)
 
     def __enter__(self):
         return self
@@ -291,20 +330,21 @@ class _Answers:
 class Levels(_Answers):
     """The levels of a folder, each verified: level 0 up to the first whose file is not there.
 
-    With `most`, levels of more stones are not read. An object is for one thread at a time; `share` gives
-    another thread one of its own.
+    With `most`, levels of more stones are not read. A folder without level 0 is refused as 82. Any number of
+    threads may ask at once.
     """
 
+    _at = None
+
     def __init__(self, folder: str | os.PathLike, most: int = HIGHEST_LEVEL):
-        self._handle = _Handle()
-        self._at = ctypes.addressof(self._handle)
-        fault = _Fault()
         with Mapped(folder, most) as files:
+            handle, fault = _Handle(), _Fault()
             for file in files._files:
-                answer = _awari.awari_add_level(self._at, file.bytes, file.len, ctypes.addressof(fault))
+                answer = _awari_long.awari_add_level(ctypes.addressof(handle), file.bytes, file.len, ctypes.addressof(fault))
                 if answer:
-                    self.close()
+                    _awari.awari_close(ctypes.addressof(handle))
                 _expect(answer, fault)
+        self._handle, self._at = handle, ctypes.addressof(handle)
 
     @staticmethod
     def mapped(folder: str | os.PathLike, most: int = HIGHEST_LEVEL) -> Mapped:
@@ -343,51 +383,62 @@ class Levels(_Answers):
         boards = _pits_of(boards)
         found = numpy.empty(len(boards), _entry_type(numpy, "<"))
         told = ctypes.c_size_t()
-        _expect(_awari.awari_probe_many(self._at, boards.ctypes.data, len(boards), found.ctypes.data, len(found), ctypes.addressof(told)))
+        with self.share() as own:
+            _expect(_awari_long.awari_probe_many(own._at, boards.ctypes.data, len(boards), found.ctypes.data, len(found), ctypes.addressof(told)))
         return found
 
     def share(self) -> Levels:
-        """The same levels for another thread. None is copied."""
-        shared = Levels.__new__(Levels)
-        shared._handle = _Handle()
-        shared._at = ctypes.addressof(shared._handle)
-        _expect(_awari.awari_share_with(self._at, shared._at))
+        """The same levels in an object of their own, which is closed by itself. None is copied."""
+        shared, handle = Levels.__new__(Levels), _Handle()
+        _expect(_awari.awari_share_with(self._at, ctypes.addressof(handle)))
+        shared._handle, shared._at = handle, ctypes.addressof(handle)
         return shared
 
     def close(self) -> None:
         """Gives the levels back, if no other object shares them."""
-        _awari.awari_close(self._at)
+        if self._at is not None:
+            _awari.awari_close(self._at)
 
 
 class Mapped(_Answers):
     """The levels of a folder in their files, where they lie: level 0 up to the first whose file is not there.
 
     It opens at once, and takes no memory for levels. Nothing is verified; `check` compares the files with a
-    digest that you trust. Any number of threads may ask at once.
+    digest that you trust. Any number of threads may ask at once. If a file is cut off meanwhile, the system
+    ends the process by SIGBUS; `build` never cuts one off.
     """
 
+    _files: ctypes.Array = (_File * 0)()
+    _maps: list[mmap.mmap | bytes] = []
+
     def __init__(self, folder: str | os.PathLike, most: int = HIGHEST_LEVEL):
-        self._maps: list[mmap.mmap | bytes] = []
-        self._files = (_File * 0)()
+        if not isinstance(folder, (str, os.PathLike)):
+            raise TypeError(f"a folder is a str or a path, and not {folder!r}")
+        if _whole(most, "the most stones are a whole number") < 0:
+            raise ValueError(f"the most stones are 0 or more, and not {most}")
         if not os.path.isdir(folder):
-            raise Refused(82, _Fault())
-        for level in range(most + 1):
+            raise Refused(82, _Fault(), str(folder))
+        maps: list[mmap.mmap | bytes] = []
+        for level in range(min(most, HIGHEST_LEVEL) + 1):
+            path = Path(folder) / f"level_{level:02}.awdb"
             try:
-                with open(Path(folder) / f"level_{level:02}.awdb", "rb") as file:
-                    self._maps.append(_map(file))
+                maps.append(_map(path, level))
             except FileNotFoundError:
                 break
             except OSError:
-                raise Refused(82, _Fault(level)) from None
-        self._files = (_File * len(self._maps))(*map(_place, self._maps))
+                raise Refused(82, _Fault(level), str(path)) from None
+        if not maps:
+            raise Refused(82, _Fault(), f"{folder} has no level_00.awdb")
+        self._maps, self._files = maps, (_File * len(maps))(*map(_place, maps))
 
     def __len__(self) -> int:
         return len(self._maps)
 
     def _file(self, level: int) -> _File:
-        if not 0 <= level < len(self._maps):
+        files = self._files
+        if not 0 <= level < len(files):
             raise Refused(59)
-        return self._files[level]
+        return files[level]
 
     def entry(self, board: Board) -> Entry:
         at = _scratch
@@ -395,44 +446,67 @@ class Mapped(_Answers):
         stones = sum(at.pits.raw)
         if stones > 48:
             raise Refused(3)
+        maps = self._maps  # so that they stay, should another thread close this
         file = self._file(stones)
         return _entry(_probe_file(file.bytes, file.len, at.pits_at, at.entry_at), at.entry)
 
     def moves(self, board: Board) -> list[Move]:
         at = _scratch
         _read(board, at.pits, at.pits_at)
-        _expect(_awari.awari_probe_moves_files(ctypes.addressof(self._files), len(self._files), at.pits_at, at.moves_at))
+        maps = self._maps  # so that they stay
+        files = self._files
+        _expect(_awari.awari_probe_moves_files(ctypes.addressof(files), len(files), at.pits_at, at.moves_at))
         return _moves(at.moves)
 
     def line(self, board: Board) -> Line:
         entry = self.entry(board)
         pits = list(_scratch.pits.raw)
-        limit = max(self.limit(level) for level in range(sum(pits) + 1))
+        limit = max(self._right_limit(level) for level in range(sum(pits) + 1))
         moves, running, quiet, side = [], 0, 0, 1
-        while entry.plan is not None and quiet <= limit:
+        while (rule := _broken_plan(pits, entry.plan)) is None and entry.plan is not None and quiet <= limit:
             moves.append(entry.plan)
             pits, captures = play(pits, entry.plan)
             running += side * captures
             quiet = 0 if captures else quiet + 1
             side = -side
             entry = self.entry(pits)
+        if rule is not None:
+            raise _breaks(rule, pits)
         # The value of an ended board is what its mover gains by the end.
         return Line(moves, running + side * entry.value if entry.plan is None else running)
 
     def limit(self, level: int) -> int:
         """The level's greatest distance, as its file says."""
+        maps = self._maps
         if self._file(level).len < _HEADER_BYTES:
             raise Refused(60)
-        return _LIMIT.unpack_from(self._maps[level])[0]
+        return _LIMIT.unpack_from(maps[level])[0]
+
+    def _right_limit(self, level: int) -> int:
+        """The same, if a level may have it. By another limit a line would not end."""
+        limit = self.limit(level)
+        if limit > _GREATEST_LIMIT:
+            raise Refused(83, _Fault(level, 22, 7, 0))
+        return limit
+
+    def _judged(self, board: Board) -> Entry:
+        entry, moves = self.entry(board), self.moves(board)
+        rule = _broken_rule(_pits(board), entry, moves)
+        if rule is not None:
+            raise _breaks(rule, _pits(board))
+        return entry
 
     def check(self, digest: str) -> bool:
         """Whether the last file ends in this digest, in hexadecimal, and each file is one over the file below it.
 
         Form and digests are judged, and not the entries. A file at fault is a `Refused`. It reads all bytes.
         """
+        maps, files = self._maps, self._files
+        if not maps:
+            raise Refused(59)
         below, own = ctypes.create_string_buffer(32), ctypes.create_string_buffer(32)
-        for level, file in enumerate(self._files):
-            answer = _awari.awari_check_file(file.bytes, file.len, ctypes.addressof(below), ctypes.addressof(own))
+        for level, file in enumerate(files):
+            answer = _awari_long.awari_check_file(file.bytes, file.len, ctypes.addressof(below), ctypes.addressof(own))
             if 60 <= answer <= 67:
                 raise Refused(81, _Fault(level, answer))
             _expect(answer, _Fault(level))
@@ -440,15 +514,16 @@ class Mapped(_Answers):
         return below.raw.hex() == digest.lower()
 
     def entries(self, level: int):
-        """The level's entries by rank, as an array over the mapped file: value, plan and distance."""
+        """The level's entries by rank, as an array over the mapped file: value, plan and distance. It is read only."""
         import numpy
 
+        maps = self._maps
         if self._file(level).len < _HEADER_BYTES + _ENTRY_BYTES * size(level):
             raise Refused(60)
-        return numpy.frombuffer(self._maps[level], _entry_type(numpy, ">"), size(level), _HEADER_BYTES)
+        return numpy.frombuffer(memoryview(maps[level]).toreadonly(), _entry_type(numpy, ">"), size(level), _HEADER_BYTES)
 
     def values(self, level: int):
-        """The level's values by rank, as an array over the mapped file."""
+        """The level's values by rank, as an array over the mapped file. It is read only."""
         return self.entries(level)["value"]
 
     def probe_many(self, boards):
@@ -480,14 +555,24 @@ class Mapped(_Answers):
         self._files, self._maps = (_File * 0)(), []
 
 
-def _map(file) -> mmap.mmap | bytes:
-    """The bytes of a file, where they lie."""
-    length = os.fstat(file.fileno()).st_size
-    if length == 0:
-        return b""
-    # An address is given of what may be written alone; what is written so would stay in this process.
-    flags = mmap.MAP_PRIVATE | getattr(mmap, "MAP_NORESERVE", 0)
-    return mmap.mmap(file.fileno(), length, flags, mmap.PROT_READ | mmap.PROT_WRITE)
+def _map(path: Path, level: int) -> mmap.mmap | bytes:
+    """The bytes of a level's file, where they lie. A pipe is not waited for, since it is no file."""
+    descriptor = os.open(path, os.O_RDONLY | os.O_NONBLOCK | os.O_CLOEXEC)
+    try:
+        state = os.fstat(descriptor)
+        if not stat.S_ISREG(state.st_mode):
+            raise Refused(82, _Fault(level), str(path))
+        if state.st_size == 0:
+            return b""
+        # An address is given of what may be written alone. What is written so stays in this process, and what is
+        # handed on of these bytes is read only.
+        flags = mmap.MAP_PRIVATE | getattr(mmap, "MAP_NORESERVE", 0)
+        try:
+            return mmap.mmap(descriptor, state.st_size, flags, mmap.PROT_READ | mmap.PROT_WRITE)
+        except OSError:
+            raise Refused(81, _Fault(level, 68)) from None
+    finally:
+        os.close(descriptor)
 
 
 def _place(content: mmap.mmap | bytes) -> tuple[int, int]:
@@ -495,6 +580,59 @@ def _place(content: mmap.mmap | bytes) -> tuple[int, int]:
     if not content:
         return ctypes.addressof(_SOME_BYTE), 0
     return ctypes.addressof(ctypes.c_char.from_buffer(content)), len(content)
+
+
+def _pits(board: Board) -> list[int]:
+    """The stones of the board's pits."""
+    _read(board, _scratch.pits, _scratch.pits_at)
+    return list(_scratch.pits.raw)
+
+
+def _breaks(rule: int, pits: list[int]) -> Refused:
+    """The refusal of a board whose entry breaks a rule of docs/FORMATS.md."""
+    at = _scratch
+    at.pits.raw = bytes(pits)
+    _expect(_awari.awari_rank(at.pits_at, at.byte_at, at.rank_at))
+    return Refused(83, _Fault(at.byte.value, 22, rule, at.rank.value))
+
+
+def _broken_plan(pits: list[int], plan: int | None) -> int | None:
+    """The rule that a plan breaks by itself, V2 or V3, if it breaks one."""
+    _scratch.pits.raw = bytes(pits)
+    legal = _awari.awari_legal(_scratch.pits_at)
+    if not legal:
+        return None if plan is None else 2
+    return None if plan is not None and plan < 8 and legal >> plan & 1 else 3
+
+
+def _broken_rule(pits: list[int], entry: Entry, moves: list[Move]) -> int | None:
+    """The first of the rules V1 to V6 that an entry breaks beside its board's moves, if it breaks one."""
+    value, plan, distance = entry
+    if abs(value) > sum(pits) or (plan is not None and plan >= PITS // 2):
+        return 1
+    if not moves:
+        gain = sum(pits[: PITS // 2]) - sum(pits[PITS // 2 :])
+        return None if (value, plan, distance) == (gain, None, 0) else 2
+    planned = next((move for move in moves if move.pit == plan), None)
+    if planned is None:
+        return 3
+    if any(move.value > value for move in moves):
+        return 4
+    if planned.value != value:
+        return 5
+    return None if _is_distance(entry, planned, moves) else 6
+
+
+def _is_distance(entry: Entry, planned: Move, moves: list[Move]) -> bool:
+    """Whether V6 holds, if V1 to V5 do. No distance is greater than the greatest limit."""
+    if entry.distance > _GREATEST_LIMIT:
+        return False
+    if entry.value == 0:
+        return entry.distance == 0
+    if entry.value < 0:
+        return entry.distance == max(move.distance for move in moves)
+    comes_nearer = planned.captures > 0 or planned.distance <= entry.distance
+    return comes_nearer and entry.distance == min(move.distance for move in moves if move.value == entry.value)
 
 
 def _entry(answer: int, found: ctypes.Array) -> Entry:
@@ -522,6 +660,8 @@ def _pits_of(boards):
     import numpy
 
     boards = numpy.asarray(boards)
+    if boards.shape == (0,):
+        boards = numpy.empty((0, PITS), numpy.uint8)
     if boards.ndim != 2 or boards.shape[1] != PITS:
         raise Refused(1)
     if boards.dtype != numpy.uint8:
@@ -553,6 +693,9 @@ def boards(level: int, ranks):
     """The boards of an array of ranks of a level, twelve pits each."""
     import numpy
 
+    ranks = numpy.asarray(ranks)
+    if ranks.size and not numpy.issubdtype(ranks.dtype, numpy.integer):
+        raise TypeError(f"ranks are whole numbers, and not {ranks.dtype}")
     ranks = numpy.array(ranks, numpy.int64)
     if len(ranks) and not (0 <= ranks.min() and ranks.max() < size(level)):
         raise IndexError(f"level {level} has ranks 0 to {size(level) - 1}")

@@ -1,5 +1,8 @@
 /* The levels of a folder, for awari.h. Compile it in, or copy it. */
+#if !defined _POSIX_C_SOURCE || _POSIX_C_SOURCE + 0 < 200809L
+#undef _POSIX_C_SOURCE
 #define _POSIX_C_SOURCE 200809L
+#endif
 #include "awari.h"
 #include <errno.h>
 #include <fcntl.h>
@@ -42,7 +45,7 @@ uint8_t awari_map(const char *folder, unsigned most, awari_files *files, awari_f
         snprintf(name, sizeof name, "level_%02u.awdb", level);
         int descriptor = openat(place, name, O_RDONLY | O_NONBLOCK | O_CLOEXEC);
         if (descriptor < 0) {
-            if (errno != ENOENT) answer = refuse(AWARI_OPEN, (uint8_t)level, 0, fault);
+            if (errno != ENOENT || level == 0) answer = refuse(AWARI_OPEN, (uint8_t)level, 0, fault);
             break;
         }
         answer = map_file(descriptor, (uint8_t)level, &files->level[level], fault);

@@ -36,7 +36,8 @@ def library():
 def version():
     """The version that the header has."""
     words = (HERE / "awari.h").read_text().split()
-    return words[words.index("AWARI_VERSION") + 1].strip('"')
+    number = int(words[words.index("AWARI_VERSION") + 1])
+    return f"{number // 10000}.{number // 100 % 100}.{number % 100}"
 
 
 def row(name, content):

@@ -6,6 +6,7 @@
 
 It needs numpy. The level's file is mapped, and nothing is verified: `awari verify` does that.
 """
+import signal
 import sys
 
 import numpy
@@ -44,4 +45,6 @@ def main(folder, level):
 if __name__ == "__main__":
     if len(sys.argv) != 3:
         sys.exit(__doc__)
+    # who reads the lines through a pipe may have enough of them
+    signal.signal(signal.SIGPIPE, signal.SIG_DFL)
     main(sys.argv[1], int(sys.argv[2]))

@@ -1,9 +1,10 @@
-/* A search that asks the levels at its leaves: engine FOLDER BOARD PLIES.
+/* A search that asks the levels at its leaves: engine FOLDER BOARD PLIES. Once ./install has put the library there:
  *
- *     cc -O2 -pthread -o engine engine.c open.c $(pkg-config --cflags --libs awari)
+ *     cc -O2 -o engine engine.c $(pkg-config --variable=opener awari) $(pkg-config --cflags --libs awari)
  *
  * It prints what the mover gains if both sides play as well as this search sees, and the pit to play. Eight
- * threads search. The levels are in mapped files, in which all threads may look up at once. A board that has a level is not searched further, since its value is known.
+ * threads search. The levels are in mapped files, in which all threads may look up at once. A board that has a
+ * level is not searched further, since its value is known.
  */
 #include "awari.h"
 #include <pthread.h>
@@ -21,7 +22,8 @@ static int known(const uint8_t pits[12]) {
     awari_entry entry;
     unsigned stones = 0;
     for (int pit = 0; pit < 12; pit++) stones += pits[pit];
-    if (stones < files.count && !awari_probe_file(files.level[stones].bytes, files.level[stones].len, pits, &entry)) return entry.value;
+    if (stones < files.count && !awari_probe_file(files.level[stones].bytes, files.level[stones].len, pits, &entry))
+        return entry.value;
     if (awari_legal(pits)) return UNKNOWN;
     /* Each side keeps the stones of its own pits. */
     int gain = 0;

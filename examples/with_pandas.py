@@ -18,13 +18,12 @@ AWARI = os.environ.get("AWARI") or Path(__file__).resolve().parent.parent / "awa
 
 
 def main(folder, level):
-    done = subprocess.run([AWARI, "boards", folder, level], stdout=subprocess.PIPE, text=True, check=False)
+    done = subprocess.run([AWARI, "boards", folder, level, "--csv"], stdout=subprocess.PIPE, text=True, check=False)
     if done.returncode:
         sys.exit(done.stdout.strip() or done.returncode)
-    boards = pandas.read_csv(
-        io.StringIO(done.stdout), sep=" ", names=["board", "value", "plan", "distance"], dtype={"plan": str}
-    )
-    print(pandas.crosstab(boards["value"], boards["plan"], margins=True, margins_name="all").to_string())
+    boards = pandas.read_csv(io.StringIO(done.stdout), dtype={"plan": str})
+    plans = boards["plan"].fillna("-")
+    print(pandas.crosstab(boards["value"], plans, margins=True, margins_name="all").to_string())
 
 
 if __name__ == "__main__":

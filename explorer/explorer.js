@@ -61,6 +61,14 @@ function expect(answer) {
   if (answer !== 0) throw new Refused(answer);
 }
 
+/** The bytes of a buffer or of a view of one, where they lie. */
+function bytesOf(file) {
+  if (ArrayBuffer.isView(file)) return new Uint8Array(file.buffer, file.byteOffset, file.byteLength);
+  const [, kind] = /^\[object (\w+)\]$/.exec(Object.prototype.toString.call(file));
+  if (kind === "ArrayBuffer" || kind === "SharedArrayBuffer") return new Uint8Array(file);
+  throw new TypeError(`The bytes of a file are an ArrayBuffer or a view of one, as a Uint8Array, and this is of the kind ${kind}`);
+}
+
 /** The module that lies beside this file. */
 async function shipped() {
   const place = new URL("awari.wasm", location.href);
@@ -76,10 +84,13 @@ class Levels {
   #pits;
   #out;
 
-  /** No level yet, by the module of these bytes, or by the one beside this file. */
+  /**
+   * No level yet, by the module of these bytes, or by this one, or by the one beside this file.
+   * @param {BufferSource | WebAssembly.Module} [module]
+   */
   static async start(module) {
-    const { instance } = await WebAssembly.instantiate(module ?? (await shipped()), {});
-    return new Levels(instance);
+    const made = await WebAssembly.instantiate(module ?? (await shipped()), {});
+    return new Levels(made instanceof WebAssembly.Instance ? made : made.instance);
   }
 
   /** By an instance of the module; `start` makes one. */
@@ -103,10 +114,10 @@ class Levels {
 
   /**
    * Verifies the bytes of a file, and puts its level on. It is refused as 80, 81, 83, 84 or 86.
-   * @param {Uint8Array} file
+   * @param {ArrayBufferLike | ArrayBufferView} file
    */
   add(file) {
-    const answer = this.#lend(file, (place, length) =>
+    const answer = this.#lend(bytesOf(file), (place, length) =>
       this.#calls.awari_add_level(this.#handle, place, length, this.#out));
     if (answer === 0) return;
     const told = this.#view(8);
@@ -510,6 +521,10 @@ const drawing = (name, attributes = {}, ...children) =>
 
 const icon = name => drawing("svg", { "aria-hidden": "true" }, drawing("use", { href: `#icon-${name}` }));
 
+/** A button that can do nothing now. Hands leave it alone; if it were disabled, it would lose the keyboard. */
+const turnOff = (button, isOff) => button.setAttribute("aria-disabled", String(isOff));
+const isOff = button => button.getAttribute("aria-disabled") === "true";
+
 /** Puts other children into a box. If one of the old had the keyboard, the first of the new that matches gets it. */
 function refill(box, children, matching = "button") {
   const hasKeyboard = box.querySelector(":focus-visible") !== null;
@@ -522,7 +537,7 @@ function button(attributes, action, ...children) {
   made.addEventListener("click", action);
   return made;
 }
-return { byId, element, drawing, icon, refill, button };
+return { byId, element, drawing, icon, turnOff, isOff, refill, button };
 })();
 
 const module_files = (() => {
@@ -576,7 +591,7 @@ const module_hands = (() => {
 // What hands and keys do: buttons, fields, what is pasted or dropped, and the address.
 
 const { onAddress } = module_address;
-const { byId, element } = module_elements;
+const { byId, element, isOff } = module_elements;
 const { filesOfDrop, filesOfInput } = module_files;
 
 /**
@@ -600,7 +615,8 @@ const isField = target => /^(INPUT|TEXTAREA|SELECT)$/.test(target.tagName) && ta
  */
 function bindHands(session, views, choices) {
   const actions = actionsOf(session, views);
-  for (const [id, action] of Object.entries(actions)) byId(id).addEventListener("click", action);
+  for (const [id, action] of Object.entries(actions))
+    byId(id).addEventListener("click", () => { if (!isOff(byId(id))) action(); });
   bindChoices(session, choices);
   bindWords(session, views);
   bindKeys(session);
@@ -678,9 +694,14 @@ function bindWords(session, views) {
     views.refuseWord(fault);
     views.hint(fault.message);
   };
+  byId("word").addEventListener("input", () => { views.isWriting = true; });
   byId("word-form").addEventListener("submit", event => {
     event.preventDefault();
-    attempt(() => session.showText(byId("word").value), fault => views.refuseWord(fault));
+    views.isWriting = false; // what is shown takes its place
+    attempt(() => session.showText(byId("word").value), fault => {
+      views.isWriting = true;
+      views.refuseWord(fault);
+    });
   });
   document.addEventListener("paste", event => {
     const text = event.clipboardData?.getData("text") ?? "";
@@ -718,12 +739,14 @@ function bindBuilding({ library }, views) {
   byId("build-form").addEventListener("submit", event => {
     event.preventDefault();
     if (library.work) library.stop();
-    else library.build(views.more.top).then(() => views.say(library.notice ?? library.title));
+    else if (!isOff(byId("build"))) library.build(views.more.top).then(() => views.say(library.notice ?? library.title));
   });
   byId("build-top").addEventListener("input", () => views.more.draw(library));
-  byId("close").addEventListener("click", () => library.close());
+  byId("close").addEventListener("click", () => { if (!isOff(byId("close"))) library.close(); });
+  byId("close").addEventListener("blur", () => views.more.drawClose(library));
   byId("save").addEventListener("click", () => saveFiles(library.files));
   byId("clear-kept").addEventListener("click", async () => {
+    if (isOff(byId("clear-kept"))) return;
     await library.clear();
     views.hint("This browser keeps no levels any more");
     views.say("This browser keeps no levels any more");
@@ -798,6 +821,8 @@ class Fault extends Error {
     super(`${text} (${number} ${name})`);
     this.number = number;
     this.fault = name;
+    /** Whether the same may succeed later. */
+    this.isPassing = false;
   }
 }
 
@@ -999,6 +1024,7 @@ async function bytesOf(file, from, to) {
   try {
     return new Uint8Array(await file.slice(from, to).arrayBuffer());
   } catch (fault) {
+    if (fault instanceof Fault) throw fault;
     throw new Fault(68, "Read",
       `${file.name} can’t be read: it changed or went away since it was chosen. Choose it again. ${fault.name}`);
   }
@@ -1105,19 +1131,39 @@ const entryAt = (view, place) => {
   const plan = view.getUint8(place + 1);
   return { value: view.getInt8(place), plan: plan === NO_PLAN ? null : plan, distance: view.getUint32(place + 2) };
 };
-return { HIGHEST, HEADER_BYTES, ENTRY_BYTES, DIGEST_BYTES, LAST_PIT, nameOf, fileSizeOf, placeOf, hex, bytesOf, openLevel, belowFaultOf, namedLevels, entryAt };
+return { HIGHEST, HEADER_BYTES, ENTRY_BYTES, DIGEST_BYTES, MAGIC, LAST_PIT, nameOf, fileSizeOf, placeOf, hex, bytesOf, openLevel, belowFaultOf, namedLevels, entryAt };
 })();
 
 const module_hosted = (() => {
 // Levels in a folder of the page's own server. Six bytes of a file are asked for where the server knows Range.
 
-const { HEADER_BYTES, HIGHEST, nameOf } = module_level_file;
+const { fileSizeOf, HEADER_BYTES, HIGHEST, hex, MAGIC, nameOf } = module_level_file;
 const { Fault } = module_rules;
 
 /** If a server ignores Range, files up to this level are fetched whole. */
 const HIGHEST_WHOLE = 12;
+/** So many files in a row that can't be read end the search for more. */
+const MOST_UNREAD = 2;
+const MAGIC_BYTES = 4;
+/** Besides those of 500 and more: the server asks to try again. */
+const TRY_AGAIN = [408, 425, 429];
 
-/** @typedef {{ folder: URL, isAsked: boolean }} Hosted a folder of a server, and whether the address names it */
+/**
+ * In how many milliseconds an answer has to begin, and its bytes to come beside those that they take; how many bytes a
+ * millisecond brings at least; and how long it is waited before each further try.
+ */
+const patience = { request: 10_000, bytesAMillisecond: 20, pauses: [300, 1500] };
+
+/**
+ * @typedef {{ folder: URL, isAsked: boolean }} Hosted a folder of a server, and whether the address names it
+ *
+ * @typedef {object} Found the file of a level on a server
+ * @property {number} number
+ * @property {import("./level_file.mjs").Source | null} source null if it is too large to be fetched whole
+ * @property {Fault | null} fault why it could not be read
+ * @property {boolean} isWhole whether the server ignores Range
+ * @property {boolean} isLevel whether it begins as a level does, or could not be read
+ */
 
 /**
  * Where the address says that levels are: `?levels=URL`, or the folder beside the page. Null from the disk.
@@ -1136,57 +1182,153 @@ class HostedFile {
   /**
    * @param {URL} place
    * @param {number} size
-   * @param {ArrayBuffer} head its first bytes, which were asked for already
+   * @param {ArrayBuffer} [head] its first bytes, if they were read already
    */
-  constructor(place, size, head) {
+  constructor(place, size, head = new ArrayBuffer(0)) {
     this.place = place;
     this.size = size;
     this.head = head;
-    this.name = place.pathname.split("/").at(-1);
+    this.name = fileNameOf(place);
   }
 
   slice(from = 0, to = this.size) {
-    if (to <= this.head.byteLength) return { arrayBuffer: async () => this.head.slice(from, to) };
-    return { arrayBuffer: async () => (await rangeOf(this.place, from, to)).arrayBuffer() };
+    const last = Math.min(to, this.size);
+    if (last <= this.head.byteLength) return { arrayBuffer: async () => this.head.slice(from, last) };
+    return { arrayBuffer: () => ask(this.place, from, last, answer => partOf(answer, this.place, from, last)) };
   }
 }
 
-/** The bytes of a file, or all of it if the server ignores Range. */
-async function rangeOf(place, from, to) {
-  const answer = await fetch(place, { headers: { Range: `bytes=${from}-${to - 1}` }, redirect: "error" });
-  if (answer.status === 206 || answer.status === 200) return answer;
-  throw new Fault(68, "Read", `The server answers ${answer.status} for ${place.pathname}`);
+const fileNameOf = place => place.pathname.split("/").at(-1);
+
+// ---- requests ----
+
+/** The network or the server failed at a file, which may be read later. */
+function unread(place, why) {
+  const fault = new Fault(68, "Read", `${fileNameOf(place)} can’t be read from the server: ${why}`);
+  fault.isPassing = true;
+  return fault;
 }
 
-/**
- * The levels of a folder from this number up, to the first that is not there: as sources, or as whole files if the
- * server ignores Range. `told` is what is to be said of it, null if nothing is.
- * @param {URL} folder
- * @param {number} first
- */
-async function hostedLevels(folder, first) {
-  const found = { sources: [], files: [], told: null };
-  if (folder.origin !== location.origin)
-    return { ...found, told: `Levels are read from this server alone, and not from ${folder.origin}.` };
-  for (let number = first; number <= HIGHEST; number++) {
-    const place = new URL(nameOf(number), folder);
-    const answer = await rangeOf(place, 0, HEADER_BYTES).catch(() => null);
-    if (!answer) break;
-    const size = /\/(\d+)$/.exec(answer.headers.get("Content-Range") ?? "")?.[1];
-    if (answer.status === 206 && size) {
-      found.sources.push(new HostedFile(place, Number(size), await answer.arrayBuffer()));
-    } else if (number <= HIGHEST_WHOLE) {
-      found.files.push(new File([await answer.blob()], nameOf(number)));
-    } else {
-      answer.body?.cancel();
-      break;
+/** What `take` makes of the answer, which has these bytes or the `whole` file. What fails is tried twice more. */
+async function ask(place, from, to, take, whole = 0) {
+  for (const pause of [...patience.pauses, null]) {
+    try {
+      return await askOnce(place, from, to, take, whole);
+    } catch (fault) {
+      if (!fault.isPassing || pause === null) throw fault;
+      await new Promise(next => setTimeout(next, pause));
     }
   }
-  if (found.files.length)
-    found.told = `This server ignores Range requests: levels to ${HIGHEST_WHOLE} are fetched whole, and none above.`;
-  return found;
 }
-return { hostedFolder, hostedLevels };
+
+async function askOnce(place, from, to, take, whole) {
+  const control = new AbortController(), headers = { Range: `bytes=${from}-${to - 1}` };
+  let milliseconds = patience.request, timer = setTimeout(() => control.abort(), milliseconds);
+  try {
+    const answer = await fetch(place, { headers, redirect: "manual", signal: control.signal });
+    const { status, statusText } = answer;
+    clearTimeout(timer);
+    milliseconds += (status === 200 ? whole : to - from) / patience.bytesAMillisecond;
+    timer = setTimeout(() => control.abort(), milliseconds);
+    if (status >= 500 || TRY_AGAIN.includes(status)) throw unread(place, `it answers ${status} ${statusText}`.trim());
+    return await take(answer);
+  } catch (fault) {
+    if (fault instanceof Fault) throw fault;
+    throw unread(place, control.signal.aborted
+      ? `it has not answered within ${Math.ceil(milliseconds / 1000)} seconds`
+      : `the network fails, “${fault.message}”`);
+  } finally {
+    clearTimeout(timer);
+    control.abort(); // of a body that nobody wants
+  }
+}
+
+/** What an answer says of the part that it is: its first byte, the one behind its last, and the file's size if told. */
+function rangeOf(answer) {
+  const found = /^bytes (\d+)-(\d+)\/(\d+|\*)$/.exec(answer.headers.get("Content-Range") ?? "");
+  if (!found) return null;
+  const [first, last, size] = found.slice(1).map(Number);
+  return { first, end: last + 1, size: found[3] === "*" ? null : size };
+}
+
+/** The bytes of a part, which have to be those that were asked for. */
+async function partOf(answer, place, from, to) {
+  const name = fileNameOf(place), range = rangeOf(answer);
+  if (answer.status === 200)
+    throw new Fault(68, "Read", `The server ignores Range for ${name}, and gives all of it in place of a part`);
+  if (answer.status === 416) throw new Fault(60, "Truncated", `${name} ends before byte ${to}`);
+  if (answer.status !== 206) throw unread(place, `it answers ${answer.status || "that it is elsewhere"}`);
+  if (range?.first !== from || range.end !== Math.min(to, range.size ?? to)) throw anotherPart(answer, name);
+  const bytes = await answer.arrayBuffer();
+  if (bytes.byteLength !== range.end - from) throw unread(place, "a part ends too soon");
+  return bytes;
+}
+
+function anotherPart(answer, name) {
+  const told = answer.headers.get("Content-Range") ?? "no Content-Range";
+  return new Fault(68, "Read", `The server gives another part of ${name} than was asked for: ${told}`);
+}
+
+/** The bytes of a body up to so many, so that no server fills the memory. */
+async function bytesUpTo(answer, most) {
+  const reader = answer.body?.getReader(), parts = [];
+  for (let length = 0; reader && length < most; ) {
+    const { done, value } = await reader.read();
+    if (done) break;
+    parts.push(value);
+    length += value.length;
+  }
+  return new Blob(parts).arrayBuffer();
+}
+
+// ---- a folder ----
+
+/**
+ * The levels of a folder from this number up, each as its header comes, to the first that is not there. Unless the
+ * address asks for levels, what does not begin as a level does is not there: a server may show a page in its place.
+ * @param {Hosted} hosted
+ * @param {number} first
+ * @returns {AsyncGenerator<Found>}
+ */
+async function* hostedLevels({ folder, isAsked }, first) {
+  let next = headOf(folder, first);
+  for (let number = first, unread = 0; number <= HIGHEST && unread < MOST_UNREAD; number++) {
+    const found = await next;
+    if (!found || (!found.isLevel && !isAsked)) return;
+    if (found.isLevel && number < HIGHEST) next = headOf(folder, number + 1);
+    unread = found.fault ? unread + 1 : 0;
+    yield found;
+    if (!found.isLevel) return;
+  }
+}
+
+/** What is found under a level's name, null if nothing is. It never throws. */
+async function headOf(folder, number) {
+  const place = new URL(nameOf(number), folder), whole = number <= HIGHEST_WHOLE ? fileSizeOf(number) + 1 : MAGIC_BYTES;
+  try {
+    return await ask(place, 0, HEADER_BYTES, answer => foundIn(answer, place, number, whole), whole);
+  } catch (fault) {
+    return { number, source: new HostedFile(place, fileSizeOf(number)), fault, isWhole: false, isLevel: true };
+  }
+}
+
+/** A folder without a file has many answers: it is refused, or it is elsewhere. */
+async function foundIn(answer, place, number, whole) {
+  const byParts = (size, isLevel, head) =>
+    ({ number, source: new HostedFile(place, size, head), fault: null, isWhole: false, isLevel });
+  if (answer.status === 200) {
+    const bytes = await bytesUpTo(answer, whole), isLevel = beginsAsLevel(bytes);
+    const source = number <= HIGHEST_WHOLE || !isLevel ? new File([bytes], nameOf(number)) : null;
+    return { number, source, fault: null, isWhole: true, isLevel };
+  }
+  if (answer.status === 416) return byParts(0, false);
+  if (answer.status !== 206) return null;
+  const head = await partOf(answer, place, 0, HEADER_BYTES), size = rangeOf(answer)?.size ?? fileSizeOf(number);
+  return byParts(size, beginsAsLevel(head), head);
+}
+
+const beginsAsLevel = bytes => hex(new Uint8Array(bytes.slice(0, MAGIC_BYTES))) === MAGIC;
+return { HIGHEST_WHOLE, patience, hostedFolder, hostedLevels };
 })();
 
 const module_proved = (() => {
@@ -1603,7 +1745,9 @@ const { plural } = module_words;
  * @typedef {import("./proved.mjs").Proved} Proved
  *
  * @typedef {"built" | "verified" | "unverified"} Standing how it is known what a level says
- * @typedef {{ level?: Level, standing?: Standing, fault?: Error }} Slot a level, or why it is refused
+ * @typedef {import("./level_file.mjs").Source} Source
+ * @typedef {{ level?: Level, standing?: Standing, fault?: Error, again?: Source }} Slot a level, or why it is refused;
+ * what could not be read is tried again once a board asks for it
  */
 
 /** How many entries are kept that were read. */
@@ -1611,6 +1755,10 @@ const KEPT_ENTRIES = 20000;
 
 class Shelf {
   #kept = new Map();
+  /** The levels that are being tried again, by their numbers. */
+  #trying = new Map();
+  /** Hears that a level has come that could not be read before. */
+  came = () => {};
 
   /**
    * @param {Proved | null} proved the proved code, which knows the levels that were built or verified
@@ -1643,11 +1791,39 @@ class Shelf {
     return shelf;
   }
 
+  /**
+   * Takes the file of a level. If it could not be read, or can't be now, it is tried again once a board asks for it.
+   * @param {number} number
+   * @param {Source} source
+   * @param {Error | null} fault why it could not be read
+   */
+  async take(number, source, fault = null) {
+    this.slots[number] = fault ? { fault, again: source } : await this.#opened(number, source);
+  }
+
+  /** @returns {Promise<Slot>} */
+  async #opened(number, source) {
+    try {
+      const level = await openLevel(source), fault = belowFaultOf(level, number, this.level(number - 1));
+      return fault ? { fault } : { level, standing: "unverified" };
+    } catch (fault) {
+      return fault.isPassing ? { fault, again: source } : { fault };
+    }
+  }
+
+  async #tryAgain(number, source) {
+    const slot = await this.#opened(number, source);
+    this.#trying.delete(number);
+    this.slots[number] = slot;
+    if (slot.level) this.came();
+  }
+
   level(number) { return this.slots[number]?.level ?? null; }
   fault(number) { return this.slots[number]?.fault ?? null; }
   standing(number) { return this.slots[number]?.standing ?? null; }
   get isEmpty() { return this.slots.every(slot => !slot); }
   get levels() { return this.slots.flatMap(slot => slot?.level ?? []); }
+  /** The files that are refused, and those that could not be read. */
   get faults() { return this.slots.flatMap((slot, number) => slot?.fault ? [{ number, fault: slot.fault }] : []); }
 
   /** The levels that are not there and have one above them that is. */
@@ -1676,7 +1852,10 @@ class Shelf {
    */
   async entry(board) {
     if (this.knows(board)) return this.proved.ask("entry", board);
-    const level = this.#levelOf(stonesOf(board)), word = print(board);
+    const stones = stonesOf(board), again = this.slots[stones]?.again;
+    if (again && !this.#trying.has(stones)) this.#trying.set(stones, this.#tryAgain(stones, again));
+    await this.#trying.get(stones);
+    const level = this.#levelOf(stones), word = print(board);
     if (!this.#kept.has(word)) {
       const entry = await this.#read(level, board);
       if (this.#kept.size >= KEPT_ENTRIES) this.#kept.clear();
@@ -1713,7 +1892,7 @@ return { Shelf };
 const module_library = (() => {
 // The levels that are there: built, kept, opened or hosted; and the work that builds and verifies them.
 
-const { hostedLevels } = module_hosted;
+const { HIGHEST_WHOLE, hostedLevels } = module_hosted;
 const { clearKept, keepFile, keptFile, keptNumbers } = module_kept;
 const { namedLevels, nameOf, openLevel } = module_level_file;
 const { sizeOf } = module_rules;
@@ -2006,19 +2185,41 @@ class Library {
   // ---- a folder of a server ----
 
   /**
-   * Takes the levels of a folder of the page's own server, above those that are there.
+   * Takes the levels of a folder of the page's own server, above those that are there, each as it comes.
    * @param {import("./hosted.mjs").Hosted} hosted
    */
-  async host({ folder, isAsked }) {
-    const { sources, files, told } = await hostedLevels(folder, this.length);
-    if (this.opened) return; // a hand was quicker
-    if (files.length) await this.open({ files, name: folder.pathname });
-    if (sources.length) {
-      const shelf = await Shelf.of(sources, this.proved, this.#right);
-      this.#take(shelf, `Levels to ${sources.length + this.length - 1} of this server`);
+  async host(hosted) {
+    const { folder, isAsked } = hosted, first = this.length;
+    if (folder.origin !== location.origin)
+      return this.#tell(`Levels are read from this server alone, and not from ${folder.origin}.`);
+    let shelf = null, isWhole = false;
+    for await (const found of hostedLevels(hosted, first)) {
+      if (shelf ? this.shelf !== shelf : this.opened) return; // a hand was quicker
+      isWhole ||= found.isWhole && found.isLevel;
+      if (!found.source) break;
+      shelf ??= new Shelf(this.proved, this.#right);
+      await shelf.take(found.number, found.source, found.fault);
+      if (this.opened && this.shelf !== shelf) return;
+      this.#takeHosted(shelf, first);
     }
-    const isMissing = isAsked && sources.length + files.length === 0;
-    this.notice ??= told ?? (isMissing ? `${folder.pathname} has no ${nameOf(this.length)}.` : null);
+    if (isWhole)
+      this.#tell(`This server ignores Range requests: levels to ${HIGHEST_WHOLE} are fetched whole, and none above.`);
+    else if (isAsked && !shelf) this.#tell(`${folder.pathname} has no ${nameOf(first)}.`);
+    if (isWhole && shelf) this.settled = this.#verify(shelf);
+  }
+
+  #takeHosted(shelf, first) {
+    const top = shelf.levels.at(-1)?.number ?? -1;
+    const title = top < first ? "The levels of this server can’t be read" : `Levels to ${top} of this server`;
+    if (this.shelf !== shelf) this.#take(shelf, title);
+    shelf.came = () => { if (this.shelf === shelf) this.#takeHosted(shelf, first); };
+    this.opened = title;
+    this.changed();
+  }
+
+  /** @param {string} notice */
+  #tell(notice) {
+    this.notice ??= notice;
     this.changed();
   }
 }
@@ -2884,6 +3085,7 @@ class Session {
   #takeLevels() {
     this.shown.shelf = this.library.shelf;
     this.listener.drawLevels(this.shown);
+    if (this.shown.line && "fault" in this.shown.line) this.shown.line = null; // it may have come with them
     this.#weigh();
   }
 
@@ -3643,7 +3845,7 @@ return { LevelsView };
 const module_more_view = (() => {
 // The card by which more levels come: how many are to be built, how far the work is, and what is kept and saved.
 
-const { byId, element } = module_elements;
+const { byId, element, turnOff } = module_elements;
 const { fileSizeOf } = module_level_file;
 const { HIGHEST_BUILT } = module_library;
 const { sizeOf } = module_rules;
@@ -3691,16 +3893,26 @@ class MoreView {
    * @param {Library} library
    */
   draw(library) {
-    const { length, isKept, opened } = library;
+    const { length, isKept } = library;
     if (!library.work) this.#suggest(STEPS.find(step => step >= length) ?? Math.min(length, HIGHEST_BUILT));
-    byId("close").hidden = opened === null;
+    this.drawClose(library);
     byId("save").hidden = byId("kept-told").hidden = byId("clear-kept").hidden = !library.hasBuilt;
-    byId("clear-kept").disabled = !isKept;
+    turnOff(byId("clear-kept"), !isKept);
     byId("kept-told").textContent = isKept
       ? "This browser keeps what was built here, until you clear it."
       : "This browser keeps nothing: save the levels as files.";
     this.drawCost(library);
     this.drawWork(library);
+  }
+
+  /**
+   * Without a folder there is nothing to close. A button that has the keyboard stays until that goes on.
+   * @param {Library} library
+   */
+  drawClose({ opened }) {
+    const hasKeyboard = document.activeElement === byId("close");
+    turnOff(byId("close"), opened === null);
+    byId("close").hidden = opened === null && !hasKeyboard;
   }
 
   /** The field has the next step, unless a hand wrote something else. */
@@ -3716,8 +3928,8 @@ class MoreView {
   /** @param {Library} library */
   drawWork({ work, length }) {
     byId("build").textContent = work ? "Stop" : "Build";
-    byId("build").disabled = !work && this.top < length;
-    byId("build-top").disabled = Boolean(work);
+    turnOff(byId("build"), !work && this.top < length);
+    byId("build-top").readOnly = Boolean(work);
     byId("work").hidden = !work;
     if (!work) return byId("work").replaceChildren();
     const text = `${work.text}${timeText(work.secondsLeft)}`, bar = byId("work").querySelector("progress");
@@ -3739,10 +3951,18 @@ const strongLine = (strong, text = "") => element("p", {}, element("b", {}, stro
 
 /** Faults of one number are told once, with the other files that have it. */
 function faultLines({ faults }) {
+  const refused = faults.filter(({ fault }) => !fault.isPassing);
+  const unread = faults.filter(({ fault }) => fault.isPassing);
+  return [
+    ...linesOf(refused, refused.length === 1 ? "A file is refused." : `${refused.length} files are refused.`),
+    ...linesOf(unread, "Not all levels could be read. They are asked for again once a board needs them."),
+  ];
+}
+
+function linesOf(faults, title) {
   if (faults.length === 0) return [];
   const kinds = new Map();
   for (const each of faults) kinds.set(each.fault.number, [...kinds.get(each.fault.number) ?? [], each]);
-  const title = faults.length === 1 ? "A file is refused." : `${faults.length} files are refused.`;
   return [strongLine(title), element("ul", {}, ...[...kinds.values()].map(faultLine))];
 }
 
@@ -3976,7 +4196,7 @@ const module_views = (() => {
 
 const { writeAddress } = module_address;
 const { BoardView } = module_board_view;
-const { byId, element, icon } = module_elements;
+const { byId, element, icon, turnOff } = module_elements;
 const { LevelsView } = module_levels_view;
 const { MoreView } = module_more_view;
 const { drawNotice } = module_notice_view;
@@ -3990,6 +4210,8 @@ const MILLISECONDS_OF_A_HINT = 3500;
 /** The listener of a session. */
 class Views {
   #hintTimer;
+  /** Whether a hand has written in the field of the board since that was shown. */
+  isWriting = false;
 
   /** @param {import("./session.mjs").Session} session what hands in the views act on */
   constructor(session) {
@@ -4081,13 +4303,18 @@ class Views {
       byId(id).setAttribute("aria-pressed", String(isPressed));
   }
 
-  #drawControls({ record, weighed }) {
-    byId("undo").disabled = byId("start").disabled = record.isFirst;
-    byId("redo").disabled = record.isLast;
-    byId("best").disabled = byId("auto").disabled = typeof weighed?.entry?.plan !== "number";
+  #drawControls({ record, weighed, isPlaying }) {
+    for (const id of ["undo", "start"]) turnOff(byId(id), record.isFirst);
+    turnOff(byId("redo"), record.isLast);
+    const hasNoPlan = typeof weighed?.entry?.plan !== "number";
+    turnOff(byId("best"), hasNoPlan);
+    turnOff(byId("auto"), hasNoPlan && !isPlaying);
   }
 
+  /** What is being written in the field stays. */
   #drawWord(word) {
+    if (this.isWriting && document.activeElement === byId("word")) return;
+    this.isWriting = false;
     byId("word").value = word;
     byId("word").removeAttribute("aria-invalid");
     byId("word-fault").hidden = true;

@@ -58,6 +58,15 @@ fail() {
   exit 1
 }
 
+# Expects this command to be here, or says in what it comes.
+needs() { command -v "$1" >/dev/null || fail "$1 is not here, and this wants it: it is in the package $2"; }
+
+# Expects a machine that runs what is shipped.
+expect_machine() {
+  [ "$(uname -sm)" = "Linux x86_64" ] || fail "the program is for x86-64 Linux; README, \"Other machines\", says what works here"
+  needs sha256sum coreutils
+}
+
 # keeps a program under this name in the folder, in place of those kept before; the move is one step, so
 # that nobody who starts at the same time runs half a program
 keep() {
@@ -79,11 +88,20 @@ expect_shipped() {
 # unpacks the program that is shipped to this file, which stays only if it is the one that the manifest
 # names
 unpack() {
+  needs xz xz-utils
   if ! xz -dc "$top/release/awari-x86_64.xz" >"$1"; then
     rm -f "$1"
     fail "release/awari-x86_64.xz can't be unpacked by xz to $1"
   fi
   expect_shipped "$1" program release/awari-x86_64.xz
+}
+
+# whether the system starts this program, whatever it answers
+runs_here() {
+  local status=0
+  chmod 755 "$1"
+  "$1" --version >/dev/null 2>&1 || status=$?
+  [ "$status" -ne 126 ] && [ "$status" -ne 127 ]
 }
 
 # the program that is shipped, unpacked into the folder for what is kept on its first use
@@ -93,6 +111,7 @@ shipped() {
   if [ ! -x "$kept/$name" ]; then
     made=$(mktemp "$kept/unpacked.XXXXXX")
     unpack "$made"
+    runs_here "$made" || { rm -f "$made" && fail "the shipped program does not run here: it wants x86-64 Linux with glibc 2.34 or later"; }
     keep "$made" "$kept" "$name"
     tell "this is the shipped program, proved and built from ${2:-the sources here}; ./prove does so again"
   fi
@@ -101,6 +120,8 @@ shipped() {
 
 # unpacks the library that is shipped into this folder: libawari.a and libawari.so.0
 unpack_library() {
+  needs xz xz-utils
+  needs tar tar
   if ! xz -dc "$top/release/libawari-x86_64.tar.xz" | tar -x -C "$1" libawari.a libawari.so.0; then
     fail "release/libawari-x86_64.tar.xz can't be unpacked by xz and tar to $1"
   fi
@@ -138,15 +159,25 @@ linker() { "${CC:-cc}" -Wl,--version 2>/dev/null | head -n 1; }
 optimizer() { wasm-opt --version 2>/dev/null; }
 
 # makes libawari.a and libawari.so.0 in a folder of what the toolchain built of `awari_c`, and of the part
-# of the C library that the toolchain brings
+# of the C library that the toolchain brings; of both a program sees the calls of awari.h, and no other name
 link_library() {
-  local built=$1 to=$2 kit
+  local built=$1 to=$2 kit parts=$2/parts.a
   kit=$(dirname "$(rt doc)")
-  rm -f "$to/libawari.a"
-  printf '%s\n' "create $to/libawari.a" "addlib $built" "addlib $kit/c/liblibc_c.a" save end | ar -M
-  # a program sees the calls of awari.h, and no other name
+  rm -f "$parts"
+  printf '%s\n' "create $parts" "addlib $built" "addlib $kit/c/liblibc_c.a" save end | ar -M
   printf '%s\n' '{ global: awari_*; local: *; };' >"$to/names"
   "${CC:-cc}" -shared -o "$to/libawari.so.0" -Wl,-soname,libawari.so.0 -Wl,--version-script="$to/names" \
-    -Wl,--whole-archive "$to/libawari.a" -Wl,--no-whole-archive
-  rm "$to/names"
+    -Wl,--whole-archive "$parts" -Wl,--no-whole-archive
+  join_archive "$parts" "$to/libawari.a"
+  rm "$parts" "$to/names"
+}
+
+# makes one object of those of an archive, hides all its names but the calls of awari.h, and makes an archive of it
+join_archive() {
+  local parts=$1 archive=$2 object=${2%/*}/awari.o
+  rm -f "$archive"
+  "${CC:-cc}" -nostdlib -r -o "$object" -Wl,--whole-archive "$parts" -Wl,--no-whole-archive
+  objcopy --wildcard --keep-global-symbol='awari_*' "$object"
+  ar rcsD "$archive" "$object"
+  rm "$object"
 }

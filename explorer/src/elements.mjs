@@ -25,6 +25,10 @@ export const drawing = (name, attributes = {}, ...children) =>
 
 export const icon = name => drawing("svg", { "aria-hidden": "true" }, drawing("use", { href: `#icon-${name}` }));
 
+/** A button that can do nothing now. Hands leave it alone; if it were disabled, it would lose the keyboard. */
+export const turnOff = (button, isOff) => button.setAttribute("aria-disabled", String(isOff));
+export const isOff = button => button.getAttribute("aria-disabled") === "true";
+
 /** Puts other children into a box. If one of the old had the keyboard, the first of the new that matches gets it. */
 export function refill(box, children, matching = "button") {
   const hasKeyboard = box.querySelector(":focus-visible") !== null;

@@ -2,7 +2,7 @@
 // What hands and keys do: buttons, fields, what is pasted or dropped, and the address.
 
 import { onAddress } from "./address.mjs";
-import { byId, element } from "./elements.mjs";
+import { byId, element, isOff } from "./elements.mjs";
 import { filesOfDrop, filesOfInput } from "./files.mjs";
 
 /**
@@ -26,7 +26,8 @@ const isField = target => /^(INPUT|TEXTAREA|SELECT)$/.test(target.tagName) && ta
  */
 export function bindHands(session, views, choices) {
   const actions = actionsOf(session, views);
-  for (const [id, action] of Object.entries(actions)) byId(id).addEventListener("click", action);
+  for (const [id, action] of Object.entries(actions))
+    byId(id).addEventListener("click", () => { if (!isOff(byId(id))) action(); });
   bindChoices(session, choices);
   bindWords(session, views);
   bindKeys(session);
@@ -104,9 +105,14 @@ function bindWords(session, views) {
     views.refuseWord(fault);
     views.hint(fault.message);
   };
+  byId("word").addEventListener("input", () => { views.isWriting = true; });
   byId("word-form").addEventListener("submit", event => {
     event.preventDefault();
-    attempt(() => session.showText(byId("word").value), fault => views.refuseWord(fault));
+    views.isWriting = false; // what is shown takes its place
+    attempt(() => session.showText(byId("word").value), fault => {
+      views.isWriting = true;
+      views.refuseWord(fault);
+    });
   });
   document.addEventListener("paste", event => {
     const text = event.clipboardData?.getData("text") ?? "";
@@ -144,12 +150,14 @@ function bindBuilding({ library }, views) {
   byId("build-form").addEventListener("submit", event => {
     event.preventDefault();
     if (library.work) library.stop();
-    else library.build(views.more.top).then(() => views.say(library.notice ?? library.title));
+    else if (!isOff(byId("build"))) library.build(views.more.top).then(() => views.say(library.notice ?? library.title));
   });
   byId("build-top").addEventListener("input", () => views.more.draw(library));
-  byId("close").addEventListener("click", () => library.close());
+  byId("close").addEventListener("click", () => { if (!isOff(byId("close"))) library.close(); });
+  byId("close").addEventListener("blur", () => views.more.drawClose(library));
   byId("save").addEventListener("click", () => saveFiles(library.files));
   byId("clear-kept").addEventListener("click", async () => {
+    if (isOff(byId("clear-kept"))) return;
     await library.clear();
     views.hint("This browser keeps no levels any more");
     views.say("This browser keeps no levels any more");

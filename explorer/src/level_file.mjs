@@ -33,7 +33,7 @@ const HIGHEST_OF_VERSION = { 1: 12, 2: HIGHEST };
 export const HEADER_BYTES = 52;
 export const ENTRY_BYTES = 6;
 export const DIGEST_BYTES = 32;
-const MAGIC = "41574442";
+export const MAGIC = "41574442";
 const NO_DIGEST = "0".repeat(2 * DIGEST_BYTES);
 const NO_PLAN = 255;
 export const LAST_PIT = 5;
@@ -47,6 +47,7 @@ export async function bytesOf(file, from, to) {
   try {
     return new Uint8Array(await file.slice(from, to).arrayBuffer());
   } catch (fault) {
+    if (fault instanceof Fault) throw fault;
     throw new Fault(68, "Read",
       `${file.name} can’t be read: it changed or went away since it was chosen. Choose it again. ${fault.name}`);
   }

@@ -1,7 +1,7 @@
 // @ts-check
 // The levels that are there: built, kept, opened or hosted; and the work that builds and verifies them.
 
-import { hostedLevels } from "./hosted.mjs";
+import { HIGHEST_WHOLE, hostedLevels } from "./hosted.mjs";
 import { clearKept, keepFile, keptFile, keptNumbers } from "./kept.mjs";
 import { namedLevels, nameOf, openLevel } from "./level_file.mjs";
 import { sizeOf } from "./rules.mjs";
@@ -294,19 +294,41 @@ export class Library {
   // ---- a folder of a server ----
 
   /**
-   * Takes the levels of a folder of the page's own server, above those that are there.
+   * Takes the levels of a folder of the page's own server, above those that are there, each as it comes.
    * @param {import("./hosted.mjs").Hosted} hosted
    */
-  async host({ folder, isAsked }) {
-    const { sources, files, told } = await hostedLevels(folder, this.length);
-    if (this.opened) return; // a hand was quicker
-    if (files.length) await this.open({ files, name: folder.pathname });
-    if (sources.length) {
-      const shelf = await Shelf.of(sources, this.proved, this.#right);
-      this.#take(shelf, `Levels to ${sources.length + this.length - 1} of this server`);
+  async host(hosted) {
+    const { folder, isAsked } = hosted, first = this.length;
+    if (folder.origin !== location.origin)
+      return this.#tell(`Levels are read from this server alone, and not from ${folder.origin}.`);
+    let shelf = null, isWhole = false;
+    for await (const found of hostedLevels(hosted, first)) {
+      if (shelf ? this.shelf !== shelf : this.opened) return; // a hand was quicker
+      isWhole ||= found.isWhole && found.isLevel;
+      if (!found.source) break;
+      shelf ??= new Shelf(this.proved, this.#right);
+      await shelf.take(found.number, found.source, found.fault);
+      if (this.opened && this.shelf !== shelf) return;
+      this.#takeHosted(shelf, first);
     }
-    const isMissing = isAsked && sources.length + files.length === 0;
-    this.notice ??= told ?? (isMissing ? `${folder.pathname} has no ${nameOf(this.length)}.` : null);
+    if (isWhole)
+      this.#tell(`This server ignores Range requests: levels to ${HIGHEST_WHOLE} are fetched whole, and none above.`);
+    else if (isAsked && !shelf) this.#tell(`${folder.pathname} has no ${nameOf(first)}.`);
+    if (isWhole && shelf) this.settled = this.#verify(shelf);
+  }
+
+  #takeHosted(shelf, first) {
+    const top = shelf.levels.at(-1)?.number ?? -1;
+    const title = top < first ? "The levels of this server can’t be read" : `Levels to ${top} of this server`;
+    if (this.shelf !== shelf) this.#take(shelf, title);
+    shelf.came = () => { if (this.shelf === shelf) this.#takeHosted(shelf, first); };
+    this.opened = title;
+    this.changed();
+  }
+
+  /** @param {string} notice */
+  #tell(notice) {
+    this.notice ??= notice;
     this.changed();
   }
 }

@@ -1,7 +1,7 @@
 // @ts-check
 // The card by which more levels come: how many are to be built, how far the work is, and what is kept and saved.
 
-import { byId, element } from "./elements.mjs";
+import { byId, element, turnOff } from "./elements.mjs";
 import { fileSizeOf } from "./level_file.mjs";
 import { HIGHEST_BUILT } from "./library.mjs";
 import { sizeOf } from "./rules.mjs";
@@ -49,16 +49,26 @@ export class MoreView {
    * @param {Library} library
    */
   draw(library) {
-    const { length, isKept, opened } = library;
+    const { length, isKept } = library;
     if (!library.work) this.#suggest(STEPS.find(step => step >= length) ?? Math.min(length, HIGHEST_BUILT));
-    byId("close").hidden = opened === null;
+    this.drawClose(library);
     byId("save").hidden = byId("kept-told").hidden = byId("clear-kept").hidden = !library.hasBuilt;
-    byId("clear-kept").disabled = !isKept;
+    turnOff(byId("clear-kept"), !isKept);
     byId("kept-told").textContent = isKept
       ? "This browser keeps what was built here, until you clear it."
       : "This browser keeps nothing: save the levels as files.";
     this.drawCost(library);
     this.drawWork(library);
+  }
+
+  /**
+   * Without a folder there is nothing to close. A button that has the keyboard stays until that goes on.
+   * @param {Library} library
+   */
+  drawClose({ opened }) {
+    const hasKeyboard = document.activeElement === byId("close");
+    turnOff(byId("close"), opened === null);
+    byId("close").hidden = opened === null && !hasKeyboard;
   }
 
   /** The field has the next step, unless a hand wrote something else. */
@@ -74,8 +84,8 @@ export class MoreView {
   /** @param {Library} library */
   drawWork({ work, length }) {
     byId("build").textContent = work ? "Stop" : "Build";
-    byId("build").disabled = !work && this.top < length;
-    byId("build-top").disabled = Boolean(work);
+    turnOff(byId("build"), !work && this.top < length);
+    byId("build-top").readOnly = Boolean(work);
     byId("work").hidden = !work;
     if (!work) return byId("work").replaceChildren();
     const text = `${work.text}${timeText(work.secondsLeft)}`, bar = byId("work").querySelector("progress");

@@ -8,10 +8,18 @@ const strongLine = (strong, text = "") => element("p", {}, element("b", {}, stro
 
 /** Faults of one number are told once, with the other files that have it. */
 function faultLines({ faults }) {
+  const refused = faults.filter(({ fault }) => !fault.isPassing);
+  const unread = faults.filter(({ fault }) => fault.isPassing);
+  return [
+    ...linesOf(refused, refused.length === 1 ? "A file is refused." : `${refused.length} files are refused.`),
+    ...linesOf(unread, "Not all levels could be read. They are asked for again once a board needs them."),
+  ];
+}
+
+function linesOf(faults, title) {
   if (faults.length === 0) return [];
   const kinds = new Map();
   for (const each of faults) kinds.set(each.fault.number, [...kinds.get(each.fault.number) ?? [], each]);
-  const title = faults.length === 1 ? "A file is refused." : `${faults.length} files are refused.`;
   return [strongLine(title), element("ul", {}, ...[...kinds.values()].map(faultLine))];
 }
 

@@ -23,6 +23,8 @@ export class Fault extends Error {
     super(`${text} (${number} ${name})`);
     this.number = number;
     this.fault = name;
+    /** Whether the same may succeed later. */
+    this.isPassing = false;
   }
 }
 

@@ -384,6 +384,7 @@ export class Session {
   #takeLevels() {
     this.shown.shelf = this.library.shelf;
     this.listener.drawLevels(this.shown);
+    if (this.shown.line && "fault" in this.shown.line) this.shown.line = null; // it may have come with them
     this.#weigh();
   }
 

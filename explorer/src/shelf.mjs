@@ -14,7 +14,9 @@ import { plural } from "./words.mjs";
  * @typedef {import("./proved.mjs").Proved} Proved
  *
  * @typedef {"built" | "verified" | "unverified"} Standing how it is known what a level says
- * @typedef {{ level?: Level, standing?: Standing, fault?: Error }} Slot a level, or why it is refused
+ * @typedef {import("./level_file.mjs").Source} Source
+ * @typedef {{ level?: Level, standing?: Standing, fault?: Error, again?: Source }} Slot a level, or why it is refused;
+ * what could not be read is tried again once a board asks for it
  */
 
 /** How many entries are kept that were read. */
@@ -22,6 +24,10 @@ const KEPT_ENTRIES = 20000;
 
 export class Shelf {
   #kept = new Map();
+  /** The levels that are being tried again, by their numbers. */
+  #trying = new Map();
+  /** Hears that a level has come that could not be read before. */
+  came = () => {};
 
   /**
    * @param {Proved | null} proved the proved code, which knows the levels that were built or verified
@@ -54,11 +60,39 @@ export class Shelf {
     return shelf;
   }
 
+  /**
+   * Takes the file of a level. If it could not be read, or can't be now, it is tried again once a board asks for it.
+   * @param {number} number
+   * @param {Source} source
+   * @param {Error | null} fault why it could not be read
+   */
+  async take(number, source, fault = null) {
+    this.slots[number] = fault ? { fault, again: source } : await this.#opened(number, source);
+  }
+
+  /** @returns {Promise<Slot>} */
+  async #opened(number, source) {
+    try {
+      const level = await openLevel(source), fault = belowFaultOf(level, number, this.level(number - 1));
+      return fault ? { fault } : { level, standing: "unverified" };
+    } catch (fault) {
+      return fault.isPassing ? { fault, again: source } : { fault };
+    }
+  }
+
+  async #tryAgain(number, source) {
+    const slot = await this.#opened(number, source);
+    this.#trying.delete(number);
+    this.slots[number] = slot;
+    if (slot.level) this.came();
+  }
+
   level(number) { return this.slots[number]?.level ?? null; }
   fault(number) { return this.slots[number]?.fault ?? null; }
   standing(number) { return this.slots[number]?.standing ?? null; }
   get isEmpty() { return this.slots.every(slot => !slot); }
   get levels() { return this.slots.flatMap(slot => slot?.level ?? []); }
+  /** The files that are refused, and those that could not be read. */
   get faults() { return this.slots.flatMap((slot, number) => slot?.fault ? [{ number, fault: slot.fault }] : []); }
 
   /** The levels that are not there and have one above them that is. */
@@ -87,7 +121,10 @@ export class Shelf {
    */
   async entry(board) {
     if (this.knows(board)) return this.proved.ask("entry", board);
-    const level = this.#levelOf(stonesOf(board)), word = print(board);
+    const stones = stonesOf(board), again = this.slots[stones]?.again;
+    if (again && !this.#trying.has(stones)) this.#trying.set(stones, this.#tryAgain(stones, again));
+    await this.#trying.get(stones);
+    const level = this.#levelOf(stones), word = print(board);
     if (!this.#kept.has(word)) {
       const entry = await this.#read(level, board);
       if (this.#kept.size >= KEPT_ENTRIES) this.#kept.clear();

@@ -3,7 +3,7 @@
 
 import { writeAddress } from "./address.mjs";
 import { BoardView } from "./board_view.mjs";
-import { byId, element, icon } from "./elements.mjs";
+import { byId, element, icon, turnOff } from "./elements.mjs";
 import { LevelsView } from "./levels_view.mjs";
 import { MoreView } from "./more_view.mjs";
 import { drawNotice } from "./notice_view.mjs";
@@ -17,6 +17,8 @@ const MILLISECONDS_OF_A_HINT = 3500;
 /** The listener of a session. */
 export class Views {
   #hintTimer;
+  /** Whether a hand has written in the field of the board since that was shown. */
+  isWriting = false;
 
   /** @param {import("./session.mjs").Session} session what hands in the views act on */
   constructor(session) {
@@ -108,13 +110,18 @@ export class Views {
       byId(id).setAttribute("aria-pressed", String(isPressed));
   }
 
-  #drawControls({ record, weighed }) {
-    byId("undo").disabled = byId("start").disabled = record.isFirst;
-    byId("redo").disabled = record.isLast;
-    byId("best").disabled = byId("auto").disabled = typeof weighed?.entry?.plan !== "number";
+  #drawControls({ record, weighed, isPlaying }) {
+    for (const id of ["undo", "start"]) turnOff(byId(id), record.isFirst);
+    turnOff(byId("redo"), record.isLast);
+    const hasNoPlan = typeof weighed?.entry?.plan !== "number";
+    turnOff(byId("best"), hasNoPlan);
+    turnOff(byId("auto"), hasNoPlan && !isPlaying);
   }
 
+  /** What is being written in the field stays. */
   #drawWord(word) {
+    if (this.isWriting && document.activeElement === byId("word")) return;
+    this.isWriting = false;
     byId("word").value = word;
     byId("word").removeAttribute("aria-invalid");
     byId("word-fault").hidden = true;

@@ -11,6 +11,7 @@ import random
 import re
 import sys
 import tempfile
+import time
 from pathlib import Path
 
 import building
@@ -251,6 +252,57 @@ def keys(page, awari):
     end_section("keys")
 
 
+def focus_stays(page, folder):
+    """A button that can do nothing for a while, or any more, keeps the keyboard."""
+    def stays(name, *keys):
+        page.focus(f"#{name}")
+        page.press(*(keys or [Keys.ENTER]))
+        check(f"the keyboard stays on {name}", page.js("return document.activeElement.id"), name)
+
+    page.show("1,0,0,0,0,0/0,0,1,0,0,0")
+    for _ in range(9):
+        stays("best")
+    check("the best moves to the end", " ".join(page.plies("#played")), "0 2 1 3 2 4 3 5")
+    check("it can do no more", page.at("#best").get_attribute("aria-disabled"), "true")
+    stays("undo")
+    stays("redo")
+    check("and redo neither", page.at("#redo").get_attribute("aria-disabled"), "true")
+    stays("start")
+    stays("start")
+    check("nor to the start", page.at("#start").get_attribute("aria-disabled"), "true")
+    stays("auto")
+    until(lambda: "Play line" in page.text("#auto") and "Play has ended" in page.text("#worth"))
+    check("the keyboard stays on auto to the end", page.js("return document.activeElement.id"), "auto")
+    stays("close")
+    check("the folder is closed", page.text("#folder-name"), "Levels 0 to 10, by the proved code")
+    page.press(Keys.TAB)
+    check("then the button goes", page.at("#close").is_displayed(), False)
+    page.open(folder)
+    end_section("the keyboard stays where it is")
+
+
+def writing(page):
+    """What is being written stays while the line plays."""
+    page.show("1,0,0,0,0,0/0,0,1,0,0,0")
+    box, wanted = page.at("#word"), "0,1,0,2,0,1/0,2,0,0,2,0"
+    box.send_keys(Keys.CONTROL + "a", Keys.NULL, wanted[0])
+    page.js("document.getElementById('auto').click()")
+    for character in wanted[1:]:
+        box.send_keys(character)
+        time.sleep(0.1)
+    until(lambda: len(page.plies("#played")) > 1)
+    check("the line has played", len(page.plies("#played")) > 1)
+    check("what is written", page.word(), wanted)
+    box.send_keys(Keys.ENTER)
+    page.settle()
+    check("it is shown", page.stones(), pits_of(wanted))
+    page.click("#best")
+    check("the field follows again", page.word() != wanted)
+    page.show("1,0")
+    check("what is refused stays", [page.word(), "1 Shape" in page.text("#word-fault")], ["1,0", True])
+    end_section("what is written while the line plays")
+
+
 def setting_up(page, awari, folder):
     page.show(FIRST)
     page.click("#edit")
@@ -331,6 +383,8 @@ def test_page(given, made):
         page.open(folder)
         hands(page, awari, folder)
         keys(page, awari)
+        focus_stays(page, folder)
+        writing(page)
         setting_up(page, awari, folder)
         words(page)
         line_plays_itself(page)

@@ -95,7 +95,8 @@ def keeps(page):
     top = page.text("#folder-name")
     page.begin("0,1,0,2,0,1/0,3,0,0,2,1")
     check("what was built is there again", until(lambda: page.text("#folder-name") == top))
-    check("it was verified again", "verified" in page.at(f"#level-{TOP}").get_attribute("class"))
+    class_of = "return document.getElementById(arguments[0]).className"
+    check("it was verified again", "verified" in page.js(class_of, f"level-{TOP}"))
     page.settle()
     check("its boards are worth something", -TOP <= unsigned(page.text("#value")) <= TOP)
     page.click("#clear-kept")

@@ -1,5 +1,6 @@
 """What is seen of the page, and what a voice reads out: contrast, names, the tabulator, widths, pictures."""
 import itertools
+import re
 import shutil
 import time
 
@@ -34,7 +35,7 @@ const behind = element => {
 };
 const ratio = (one, other) => (Math.max(one, other) + .05) / (Math.min(one, other) + .05);
 const isText = element => [...element.childNodes].some(node => node.nodeType === 3 && node.textContent.trim());
-const isSeen = element => element.offsetParent && !element.closest('.unseen, [hidden], :disabled, noscript');
+const isSeen = element => element.offsetParent && !element.closest('.unseen, [hidden], :disabled, .button[aria-disabled=true], noscript');
 const low = [];
 for (const element of document.querySelectorAll('body *')) {
   if (!isText(element) || !isSeen(element)) continue;
@@ -136,13 +137,15 @@ def widths(page):
 
 
 def touch(page):
-    """On a phone files are chosen, and no folders."""
+    """On a phone files are chosen, and no folders. Nothing speaks of dropping one."""
     page.driver.execute_cdp_cmd("Emulation.setTouchEmulationEnabled", {"enabled": True})
     page.look(390, 844)
     check("a phone chooses files", [page.at(it).is_displayed() for it in SHOWN], [False, True])
+    check("a phone drops nothing", re.findall("drop", page.text("main")), [])
     page.driver.execute_cdp_cmd("Emulation.setTouchEmulationEnabled", {"enabled": False})
     page.look(1240, 900)
     check("a desk chooses folders too", [page.at(it).is_displayed() for it in SHOWN], [True, True])
+    check("a desk may drop one", "drop their folder on this page" in page.text("main"))
     end_section("files chosen on phones")
 
 

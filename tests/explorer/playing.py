@@ -207,7 +207,7 @@ def letters_and_hints(page):
     check("no hints", [page.tags(), page.all("#moves .value"), page.text("#value")], [[], [], "?"])
     check("none for a voice", [it for it in page.labels().values() if "worth" in it or "plan" in it], [])
     check("none in what is said", "loses" in page.said() or "gains" in page.said(), False)
-    check("no best move", page.at("#best").is_enabled(), False)
+    check("no best move", page.at("#best").get_attribute("aria-disabled"), "true")
     check("nothing of what was thrown away", [page.all("#played .thrown"), page.text("#thrown")], [[], ""])
     page.driver.refresh()
     page.settle()

@@ -150,8 +150,10 @@ static void try_mapped(void) {
     awari_move moves[6];
     uint8_t below[32] = {0}, digest[32];
     memset(moves, 9, sizeof moves);
-    EXPECT(awari_probe_file(files.level[1].bytes, files.level[1].len, none, &entry) == AWARI_TRUNCATED); /* another level's */
+    EXPECT(awari_probe_file(files.level[1].bytes, files.level[1].len, none, &entry) == AWARI_WRONG_LEVEL);
+    EXPECT(awari_probe_file(files.level[0].bytes, files.level[0].len, one, &entry) == AWARI_WRONG_LEVEL);
     EXPECT(awari_probe_file(files.level[1].bytes, files.level[1].len - 1, one, &entry) == AWARI_TRUNCATED);
+    EXPECT(awari_probe_file(files.level[1].bytes, files.level[1].len + 1, one, &entry) == AWARI_TRAILING);
     EXPECT(awari_probe_file(files.level[1].bytes, files.level[1].len, stones_25, &entry) == AWARI_NOT_YET);
     EXPECT(awari_probe_file(files.level[1].bytes, files.level[1].len, stones_49, &entry) == AWARI_TOO_MANY);
     EXPECT(entry.plan == 9 && awari_probe_file(files.level[1].bytes, files.level[1].len, one, &entry) == AWARI_OK);
@@ -161,6 +163,8 @@ static void try_mapped(void) {
     EXPECT(awari_probe_moves_files(cut, 2, stones_49, moves) == AWARI_TOO_MANY);
     cut[0].len--;
     EXPECT(awari_probe_moves_files(cut, 2, one, moves) == AWARI_TRUNCATED && moves[0].captures == 9);
+    cut[0] = files.level[1];
+    EXPECT(awari_probe_moves_files(cut, 2, one, moves) == AWARI_WRONG_LEVEL && moves[0].captures == 9);
     EXPECT(awari_probe_moves_files(files.level, 2, one, moves) == AWARI_OK && moves[1].captures == 0);
     for (size_t level = 0; level < files.count; level++) {
         EXPECT(awari_check_file(files.level[level].bytes, files.level[level].len, below, digest) == AWARI_OK);
@@ -189,7 +193,9 @@ static void try_folders(const char *room) {
     snprintf(path, sizeof path, "%s/nowhere", room);
     EXPECT(awari_open(path, 24, &handle, &fault) == AWARI_OPEN && fault.level == 0 && is_closed(&handle));
     EXPECT(awari_map(path, 24, &some, NULL) == AWARI_OPEN && some.count == 0);
-    EXPECT(awari_open(room, 24, &handle, &fault) == AWARI_OK && awari_levels(&handle) == 0);
+    fault.level = fault.inner = 9;
+    EXPECT(awari_open(room, 24, &handle, &fault) == AWARI_OPEN && fault.level == 0 && fault.inner == 0 && is_closed(&handle));
+    EXPECT(awari_map(room, 24, &some, NULL) == AWARI_OPEN && some.count == 0);
     put(room, "level_00.awdb", files.level[0].bytes, files.level[0].len);
     put(room, "level_01.awdb", "", 0);
     EXPECT(awari_map(room, 24, &some, &fault) == AWARI_OK && some.count == 2);
@@ -203,6 +209,8 @@ static void try_folders(const char *room) {
     if (remove(path) || mkdir(path, 0700)) exit(2);
     EXPECT(awari_open(room, 24, &handle, &fault) == AWARI_OPEN && fault.level == 1 && fault.inner == 0);
     EXPECT(awari_map(room, 24, &some, NULL) == AWARI_OPEN && some.count == 0);
+    if (remove(path) || symlink(path, path)) exit(2); /* a file that does not open is not one that is not there */
+    EXPECT(awari_open(room, 24, &handle, &fault) == AWARI_OPEN && fault.level == 1 && is_closed(&handle));
     if (remove(path) || mkfifo(path, 0600)) exit(2);
     EXPECT(awari_open(room, 24, &handle, NULL) == AWARI_OPEN && is_closed(&handle));
     if (remove(path)) exit(2);

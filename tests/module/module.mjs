@@ -4,8 +4,10 @@
 //
 // FOLDER has levels 0 to TOP, 5 or more, that the program built. Each level is built in the module, at once and in slices,
 // and its file is to be the program's, byte for byte. The program's files are verified in a second module, and
-// what that says of boards is what the program says. It prints a line for each of the first faults.
+// what that says of boards is what the program says. Files are taken as buffers and views of each kind. It prints a
+// line for each of the first faults.
 import { execFileSync } from "node:child_process";
+import { createHash } from "node:crypto";
 import { readFileSync } from "node:fs";
 import { join } from "node:path";
 import { Levels, Refused } from "../../bindings/awari.mjs";
@@ -78,6 +80,66 @@ function refuseWrongFiles(levels) {
   expectRefused(59, () => levels.entry(levels.board(5, 0)));
 }
 
+/** A file is its bytes in a buffer or in any view of one. What is none is told in a sentence. */
+async function takeBytes() {
+  const levels = await Levels.start(new WebAssembly.Module(module)), bytes = level => Uint8Array.from(fileOf(level));
+  levels.add(bytes(0).buffer);
+  levels.add(new DataView(bytes(1).buffer));
+  const wide = new Uint8Array(bytes(2).length + 9), shared = new Uint8Array(new SharedArrayBuffer(bytes(3).length));
+  wide.set(bytes(2), 5);
+  levels.add(new Uint8Array(wide.buffer, 5, bytes(2).length));
+  shared.set(bytes(3));
+  levels.add(shared.buffer);
+  expect(`files in buffers: ${levels.length} levels`, levels.length === 4);
+  for (const [file, kind] of [["text", "String"], [undefined, "Undefined"], [[...bytes(4)], "Array"], [Promise.resolve(), "Promise"]]) {
+    let told = null;
+    try {
+      levels.add(file);
+    } catch (fault) {
+      told = fault;
+    }
+    expect(`${kind} for a file: ${told}`, told instanceof TypeError && told.message.endsWith(`this is of the kind ${kind}`));
+  }
+  expect("the levels stay", levels.length === 4);
+}
+
+/** The files of levels that were built stay what they were while others are built, and the memory is given back. */
+async function keepFiles() {
+  const levels = await start(), files = [];
+  while (files.length < 5) files.push(levels.build());
+  files.forEach((file, level) => expect(`the file of level ${level} has changed`, isSame(file, level)));
+  let most = 0;
+  for (let round = 0; round < 40; round++) {
+    levels.close();
+    files.forEach(file => levels.add(file));
+    if (round === 2) most = levels.bytes;
+  }
+  expect(`memory grew from ${most} to ${levels.bytes}`, levels.bytes === most);
+}
+
+/** A refusal has its fields: the level, what is inside it, and with a rule the rank. */
+async function expectFields() {
+  const levels = await start(), wrong = Buffer.from(fileOf(1));
+  levels.add(fileOf(0));
+  wrong[52] ^= 1;
+  createHash("sha256").update(wrong.subarray(0, -32)).digest().copy(wrong, wrong.length - 32);
+  for (const [file, wanted] of [[wrong, [83, "Verify", 1, 22, "V1", 0]], [wrong.subarray(1), [81, "File", 1, 61]], [fileOf(2), [80, "Below", 1]]])
+    try {
+      levels.add(file);
+      expect(`not refused as ${wanted}`, false);
+    } catch ({ number, kind, level, inner, rule, rank }) {
+      const told = [number, kind, level, inner, rule, rank].filter(it => it !== undefined);
+      expect(`refused as ${told}, and not ${wanted}`, told.join() === wanted.join());
+    }
+}
+
+/** Each call has a type. */
+function compareTypes() {
+  const types = readFileSync(new URL("../../bindings/awari.d.mts", import.meta.url), "utf8");
+  for (const name of [...Object.getOwnPropertyNames(Levels.prototype), "static start"])
+    expect(`${name} has no type`, new RegExp(`^  (get )?${name}[(]`, "m").test(types));
+}
+
 function refuseWrongBoards(levels) {
   expectRefused(1, () => levels.entry("0,0,0,0,0,1"));
   expectRefused(2, () => levels.entry("00,0,0,0,0,1/0,0,0,0,0,0"));
@@ -87,6 +149,7 @@ function refuseWrongBoards(levels) {
   expectRefused(59, () => levels.entry(Array(12).fill(4)));
   expectRefused(59, () => levels.board(25, 0));
   expectRefused(93, () => levels.board(1, 12));
+  expectRefused(93, () => levels.board(3, 1.5));
   expectRefused(4, () => levels.play(Array(12).fill(4), 6));
   expectRefused(5, () => levels.play("0,0,0,0,0,1/0,0,0,0,0,0", 0));
   expect("sizes", levels.size(1) === 12 && levels.size(24) === 417225900 && levels.size(25) === 0);
@@ -188,6 +251,10 @@ buildAtOnce(built);
 refuseSlicesOutOfTurn(built);
 buildInSlices(await start());
 refuseWrongFiles(await start());
+await takeBytes();
+await keepFiles();
+await expectFields();
+compareTypes();
 const levels = await start();
 for (let level = 0; level <= TOP; level++) levels.add(fileOf(level));
 refuseWrongBoards(levels);

@@ -7,8 +7,9 @@ use crate::calls::{
 };
 use crate::refusals::{refused, refused_with, Refusal};
 use crate::HIGHEST_LEVEL;
-use std::fs;
-use std::io::ErrorKind;
+use std::fs::OpenOptions;
+use std::io::{ErrorKind, Read};
+use std::os::unix::fs::OpenOptionsExt;
 use std::path::Path;
 use std::sync::{Mutex, MutexGuard, PoisonError};
 
@@ -34,6 +35,11 @@ pub struct Move {
     /// The plies within which a capture or the end comes by it; 0 if the value is 0.
     pub distance: u32,
 }
+
+/// A file is opened without waiting for whoever writes into a pipe. So it is named on x86-64 Linux.
+const O_NONBLOCK: i32 = 0o4000;
+/// The number of a file that is not read.
+const READ: u8 = 68;
 
 /// The levels of a folder, each verified: level 0 up to the first whose file is not there. So what they say
 /// is right.
@@ -72,8 +78,8 @@ unsafe impl Send for Levels {}
 unsafe impl Sync for Levels {}
 
 impl Levels {
-    /// Reads and verifies the levels of a folder. Refused as 80 to 84 or 86. It takes three bytes a board,
-    /// and for a time the room of a file.
+    /// Reads and verifies the levels of a folder. Refused as 80 to 84 or 86; as 82 also if the folder has no
+    /// level 0. It takes three bytes a board, and for a time the room of a file.
     pub fn open(folder: impl AsRef<Path>) -> Result<Levels, Refusal> {
         Levels::open_to(folder, HIGHEST_LEVEL)
     }
@@ -81,15 +87,11 @@ impl Levels {
     /// The same, and levels of more than `most` stones are not read.
     pub fn open_to(folder: impl AsRef<Path>, most: u8) -> Result<Levels, Refusal> {
         let levels = Levels::closed();
-        let folder = folder.as_ref();
-        if !folder.is_dir() {
-            return Err(Refusal::Open { level: 0 });
-        }
         for level in 0..=most.min(HIGHEST_LEVEL) {
-            match fs::read(folder.join(format!("level_{level:02}.awdb"))) {
-                Ok(bytes) => levels.add(&bytes)?,
-                Err(error) if error.kind() == ErrorKind::NotFound => break,
-                Err(_) => return Err(Refusal::Open { level }),
+            match bytes_of(&folder.as_ref().join(format!("level_{level:02}.awdb")), level)? {
+                Some(bytes) => levels.add(&bytes)?,
+                None if level == 0 => return Err(Refusal::Open { level }),
+                None => break,
             }
         }
         Ok(levels)
@@ -190,6 +192,25 @@ impl Levels {
         // SAFETY: the two handles are apart.
         refused(unsafe { awari_share_with(&mut **self.handle(), &mut **shared.handle()) })?;
         Ok(shared)
+    }
+}
+
+/// The bytes of a level's file, or none if it is not there. Refused as 82 if it does not open or is no file, as
+/// 81 if it is not read, and as 84.
+fn bytes_of(path: &Path, level: u8) -> Result<Option<Vec<u8>>, Refusal> {
+    let mut file = match OpenOptions::new().read(true).custom_flags(O_NONBLOCK).open(path) {
+        Ok(file) => file,
+        Err(error) if error.kind() == ErrorKind::NotFound => return Ok(None),
+        Err(_) => return Err(Refusal::Open { level }),
+    };
+    if !file.metadata().is_ok_and(|about| about.is_file()) {
+        return Err(Refusal::Open { level });
+    }
+    let mut bytes = Vec::new();
+    match file.read_to_end(&mut bytes) {
+        Ok(_) => Ok(Some(bytes)),
+        Err(error) if error.kind() == ErrorKind::OutOfMemory => Err(Refusal::Memory),
+        Err(_) => Err(Refusal::File { level, inner: READ }),
     }
 }
 

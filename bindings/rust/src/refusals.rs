@@ -29,7 +29,7 @@ pub enum Refusal {
     Below { level: u8 },
     /// 81: the file of the level is none; `inner` is the number of what is wrong, 60 to 68.
     File { level: u8, inner: u8 },
-    /// 82: the folder, or the file of the level, does not open.
+    /// 82: the folder, or the file of the level, does not open or is no file; or the folder has no level 0.
     Open { level: u8 },
     /// 83: the level is not right; `inner` is 20 to 22. With 22, the board of this rank breaks the rule.
     Verify { level: u8, inner: u8, rule: u8, rank: u32 },

@@ -1,7 +1,11 @@
 //! The levels of `examples/levels`, and folders that are wrong.
 
 use awari::{Board, Levels, Refusal};
+use std::os::unix::fs::symlink;
 use std::path::{Path, PathBuf};
+use std::process::Command;
+use std::sync::mpsc::channel;
+use std::time::Duration;
 use std::{env, fs, thread};
 
 fn examples() -> PathBuf {
@@ -59,6 +63,35 @@ fn wrong_folders_are_refused() {
     assert_eq!(refusal, Some(Refusal::File { level: 2, inner: 60 }));
     assert_eq!(Levels::open_to(&folder, 1).unwrap().len(), 2);
     assert!(refusal.unwrap().to_string().starts_with("level 2: "));
+    fs::remove_dir_all(folder).unwrap();
+}
+
+/// The refusal of a folder, which has to come soon: nobody waits for a pipe.
+fn refusal_of(folder: &Path) -> Option<Refusal> {
+    let (tell, told) = channel();
+    let folder = folder.to_path_buf();
+    thread::spawn(move || tell.send(Levels::open(folder).err()));
+    told.recv_timeout(Duration::from_secs(20)).expect("it is refused, and not waited for")
+}
+
+#[test]
+fn what_is_no_file_is_refused() {
+    let folder = folder_below("pipe", 2);
+    let path = folder.join("level_02.awdb");
+    assert!(Command::new("mkfifo").arg(&path).status().unwrap().success());
+    assert_eq!(refusal_of(&folder), Some(Refusal::Open { level: 2 }));
+    for other in ["/dev/null", "/dev/zero", "/", "level_02.awdb"] {
+        fs::remove_file(&path).unwrap();
+        symlink(other, &path).unwrap();
+        assert_eq!(refusal_of(&folder), Some(Refusal::Open { level: 2 }), "{other}");
+    }
+    fs::remove_dir_all(folder).unwrap();
+}
+
+#[test]
+fn a_folder_without_levels_is_refused() {
+    let folder = folder_below("empty", 0);
+    assert_eq!(Levels::open(&folder).err(), Some(Refusal::Open { level: 0 }));
     fs::remove_dir_all(folder).unwrap();
 }
 

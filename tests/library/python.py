@@ -1,0 +1,259 @@
+"""Asks the Python module what only a program in Python meets: python.py LEVELS
+
+Six threads ask one object, which refuses none of them. Refusals go to other processes and come back. Folders,
+files and numbers that are wrong are refused with what is wrong, and no call waits for a pipe. LEVELS is a folder
+with levels 0 to 5 at least. It prints each line that is not so, and ends with 0 only if there is none.
+"""
+import copy
+import hashlib
+import multiprocessing
+import os
+import pickle
+import re
+import shutil
+import signal
+import struct
+import sys
+import tempfile
+import threading
+import time
+from pathlib import Path
+
+TOP = Path(__file__).resolve().parents[2]
+sys.path.insert(0, str(TOP / "bindings"))
+import awari  # noqa: E402
+import wheel_of_awari  # noqa: E402
+
+BOARD = [1, 0, 0, 0, 0, 1, 1, 0, 1, 0, 0, 0]
+THREADS, TURNS = 6, 20_000
+# A call that waits for ever ends the test.
+PATIENCE = 120
+WRONG = []
+
+
+def expect(what, found, wanted):
+    if found != wanted:
+        WRONG.append(what)
+        print(f"{what}: {found!r} in place of {wanted!r}")
+
+
+def refused(call):
+    """The refusal of a call as its text, up to the path; or the error's kind and text."""
+    try:
+        return call()
+    except awari.Refused as fault:
+        return str(fault)
+    except (TypeError, ValueError, IndexError) as fault:
+        return f"{type(fault).__name__} {fault}"
+
+
+# ---- threads
+
+def try_threads(levels):
+    """Look-ups, lines and shares of one object, of which each has to be right."""
+    entry, line, moves = levels.entry(BOARD), levels.line(BOARD), levels.moves(BOARD)
+    calls = [
+        lambda: levels.entry(BOARD) == entry, lambda: levels.line(BOARD) == line, lambda: levels.moves(BOARD) == moves,
+        lambda: levels.share().entry(BOARD) == entry,
+    ]
+    failed = []
+
+    def ask(call):
+        for _ in range(TURNS):
+            try:
+                if not call():
+                    failed.append("another answer")
+            except awari.Refused as fault:
+                failed.append(str(fault))
+
+    threads = [threading.Thread(target=ask, args=(calls[number % len(calls)],)) for number in range(THREADS)]
+    for thread in threads:
+        thread.start()
+    for thread in threads:
+        thread.join()
+    expect(f"one object in {THREADS} threads", (len(failed), failed[:1]), (0, []))
+
+
+# ---- refusals
+
+def try_refusals(folder):
+    fault = awari.Refused(83, awari._Fault(4, 22, 6, 1075))
+    opened = awari.Refused(82, awari._Fault(2), "levels/level_02.awdb")
+    for one in (awari.Refused(2), fault, opened):
+        for another in (pickle.loads(pickle.dumps(one)), copy.copy(one)):
+            told = [(it.number, it.name, it.level, it.inner, it.rule, it.rank, it.path, str(it)) for it in (one, another)]
+            expect("a refusal that comes back", told[1], told[0])
+    expect("its text", str(fault), "83 Verify level 4: 22 Refused rank 1075 rule V6")
+    with multiprocessing.get_context("fork").Pool(2) as pool:
+        asked = pool.map_async(play_first, [BOARD, [0] * 11 + [1]])
+        try:
+            found = refused(lambda: asked.get(30))
+        except multiprocessing.TimeoutError:
+            found = "no answer"
+        expect("a refusal in another process", found, "7 Ended")
+
+
+def play_first(board):
+    return awari.play(board, 0)
+
+
+# ---- folders and files
+
+def try_folders(room, folder):
+    for kind in (awari.Levels, awari.Levels.mapped):
+        empty = room / "empty"
+        empty.mkdir(exist_ok=True)
+        expect("no folder", refused(lambda: kind(room / "nowhere")), f"82 Open level 0: {room}/nowhere")
+        expect("a folder without levels", refused(lambda: kind(empty)), f"82 Open level 0: {empty} has no level_00.awdb")
+        expect("bytes for a folder", refused(lambda: kind(b"levels")), "TypeError a folder is a str or a path, and not b'levels'")
+        expect("no number of stones", refused(lambda: kind(folder, -1)), "ValueError the most stones are 0 or more, and not -1")
+        expect("more stones than levels have", len(kind(folder, 99)), len(kind(folder)))
+    for number, make in enumerate((os.mkfifo, os.mkdir, lambda it: os.symlink("/dev/zero", it), lambda it: os.symlink(it, it))):
+        wrong = room / f"wrong_{number}"
+        wrong.mkdir()
+        for level in range(2):
+            shutil.copy(folder / f"level_{level:02}.awdb", wrong)
+        make(wrong / "level_02.awdb")
+        for kind in (awari.Levels, awari.Levels.mapped):
+            expect(f"what is no file, {number}", refused(lambda: kind(wrong)), f"82 Open level 2: {wrong}/level_02.awdb")
+
+
+def rank(pits):
+    return sum(1 for other in range(awari.size(sum(pits))) if board_of(sum(pits), other) < pits)
+
+
+def board_of(level, number):
+    """The board of a rank, by trying: the boards of a level ascend."""
+    pits = []
+    for pit in range(11):
+        for stones in range(level + 1):
+            behind = ways(level - stones, 11 - pit)
+            if number < behind:
+                break
+            number -= behind
+        pits.append(stones)
+        level -= stones
+    return [*pits, level]
+
+
+def ways(stones, pits):
+    return awari.comb(stones + pits - 1, pits - 1)
+
+
+def changed(room, folder, name, board, limit=None, **fields):
+    """A folder of its own in which one entry or the limit of a level is another one, with the digest of that."""
+    wrong = room / name
+    shutil.copytree(folder, wrong)
+    path = wrong / f"level_{sum(board):02}.awdb"
+    file, at = bytearray(path.read_bytes()), 52 + 6 * rank(board)
+    entry = dict(zip(("value", "plan", "distance"), struct.unpack_from(">bBI", file, at)))
+    struct.pack_into(">bBI", file, at, *{**entry, **fields}.values())
+    if limit is not None:
+        struct.pack_into(">I", file, 16, limit)
+    file[-32:] = hashlib.sha256(file[:-32]).digest()
+    path.write_bytes(file)
+    return awari.Levels.mapped(wrong)
+
+
+def try_wrong_files(room, folder):
+    with awari.Levels(folder) as levels, awari.Levels.mapped(folder) as mapped:
+        for other in range(0, awari.size(4), 7):
+            board = board_of(4, other)
+            expect(f"the longest line of {board}", mapped.longest(board), levels.longest(board))
+            expect(f"as many plies as the distance, {board}", len(mapped.longest(board)), mapped.entry(board).distance)
+            expect(f"the line of {board}", mapped.line(board), levels.line(board))
+        for other in range(0, awari.size(len(levels) - 1), 97):
+            board = board_of(len(levels) - 1, other)
+            expect(f"the moves of {board}", mapped.moves(board), levels.moves(board))
+            expect(f"the replies of {board}", mapped.replies(board), levels.replies(board))
+        last = (folder / f"level_{len(mapped) - 1:02}.awdb").read_bytes()[-32:].hex()
+        expect("the last digest", (mapped.check(last), mapped.check(last.upper()), mapped.check("00" * 32)), (True, True, False))
+        mapped.close()
+        expect("the digest of what was closed", refused(lambda: mapped.check("00" * 32)), "59 NotYet")
+        expect("an entry of what was closed", refused(lambda: mapped.entry(BOARD)), "59 NotYet")
+    number, known = rank(BOARD), "83 Verify level 4: 22 Refused rank {} rule {}"
+    for name, fields, of_line, of_longest in (
+        ("far", {"distance": 4_000_000_000}, None, "V6"), ("near", {"distance": 3}, None, "V6"),
+        ("illegal", {"plan": 3}, "V3", "V3"), ("none", {"plan": 255}, "V3", "V3"), ("another", {"plan": 0}, None, "V5"),
+        ("more", {"value": 5}, None, "V1"), ("less", {"value": 3}, None, "V4"), ("most", {"value": 100}, None, "V1"),
+    ):
+        mapped = changed(room, folder, name, BOARD, **fields)
+        expect(f"the longest line, {name}", refused(lambda: mapped.longest(BOARD)), known.format(number, of_longest))
+        found = refused(lambda: mapped.line(BOARD))
+        expect(f"the line, {name}", found if of_line else type(found), known.format(number, of_line) if of_line else awari.Line)
+    ended = [0] * 6 + [4] + [0] * 5
+    mapped = changed(room, folder, "ended", ended, plan=1)
+    expect("a plan where play has ended", refused(lambda: mapped.line(ended)), known.format(rank(ended), "V2"))
+    mapped = changed(room, folder, "limit", [0] * 12, limit=2**32 - 1)
+    expect("a limit that is too large", refused(lambda: mapped.line(BOARD)), "83 Verify level 0: 22 Refused rank 0 rule V7")
+
+
+# ---- numbers and words
+
+def try_numbers(levels):
+    expect("a level above all", refused(lambda: awari.size(25)), "ValueError a level is a whole number from 0 to 24, and not 25")
+    expect("no level", refused(lambda: awari.size(1.0)), "TypeError a level is a whole number from 0 to 24, and not 1.0")
+    expect("no pit", refused(lambda: awari.play(BOARD, 1.0)), "TypeError a pit is a whole number from 0 to 5, and not 1.0")
+    expect("another pit", [refused(lambda: awari.play(BOARD, pit)) for pit in (6, -1, 2**70)], ["4 NoPit"] * 3)
+    ignored, sys.unraisablehook = [], lambda fault: ignored.append(fault.exc_value)
+    expect("no folder at all", [refused(kind).split()[0] for kind in (awari.Levels, awari.Levels.mapped)], ["TypeError"] * 2)
+    expect("an object that was not made goes in silence", ignored, [])
+    sys.unraisablehook = sys.__unraisablehook__
+    expect("a board above all levels", refused(lambda: levels.entry([25] + [0] * 11)), "59 NotYet")
+    expect("the wheel's version", wheel_of_awari.version(), awari.version())
+    for name in ("package.json", "rust/Cargo.toml"):
+        found = re.search(r'^ *"?version"?\W+([0-9.]+)"', (TOP / "bindings" / name).read_text(), re.MULTILINE)
+        expect(f"the version of {name}", found[1], awari.version())
+
+
+def try_numpy(folder):
+    """Arrays can't be written, and take no broken numbers."""
+    try:
+        import numpy
+    except ImportError:
+        print("arrays: not tried, since numpy is not here")
+        return
+    levels, mapped = awari.Levels(folder), awari.Levels.mapped(folder)
+    for array in (mapped.values(4), mapped.entries(4)):
+        expect("an array over a file is written", array.flags.writeable, False)
+        expect("and not by a flag", refused(lambda: array.setflags(write=True)).split()[0], "ValueError")
+    expect("ranks that are no whole numbers", refused(lambda: awari.boards(3, [1.7])), "TypeError ranks are whole numbers, and not float64")
+    expect("ranks as words", refused(lambda: awari.boards(3, ["1"])).split(", and")[0], "TypeError ranks are whole numbers")
+    expect("no rank and no board", (len(awari.boards(3, [])), len(levels.probe_many([])), len(mapped.probe_many([]))), (0, 0, 0))
+    boards = numpy.tile(awari.boards(5, numpy.arange(awari.size(5))), (20, 1))
+    failed, wanted = [], levels.probe_many(boards)
+
+    def ask(call):
+        end = time.monotonic() + 1
+        while time.monotonic() < end:
+            try:
+                if not call():
+                    failed.append("another answer")
+            except awari.Refused as fault:
+                failed.append(str(fault))
+
+    calls = [lambda: (levels.probe_many(boards) == wanted).all(), lambda: levels.entry(boards[7]).value == wanted["value"][7]]
+    threads = [threading.Thread(target=ask, args=(calls[number % 2],)) for number in range(THREADS)]
+    for thread in threads:
+        thread.start()
+    for thread in threads:
+        thread.join()
+    expect("arrays of one object in threads", (len(failed), failed[:1]), (0, []))
+
+
+def main(folder):
+    signal.alarm(PATIENCE)
+    with tempfile.TemporaryDirectory() as name:
+        try_refusals(folder)
+        with awari.Levels(folder) as levels:
+            try_threads(levels)
+            try_numbers(levels)
+        try_folders(Path(name), folder)
+        try_wrong_files(Path(name), folder)
+        try_numpy(folder)
+    return 1 if WRONG else 0
+
+
+if __name__ == "__main__":
+    sys.dont_write_bytecode = True
+    sys.exit(main(Path(sys.argv[1])))
