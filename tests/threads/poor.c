@@ -1,6 +1,8 @@
-// Preloaded, refuses each growth of memory of a page or more to all threads but the first one.
+// Preloaded, refuses each growth of memory of a page or more to the first two threads that ask for one, beside the
+// first thread of the program.
 #define _GNU_SOURCE
 #include <errno.h>
+#include <stdatomic.h>
 #include <stddef.h>
 #include <stdlib.h>
 #include <sys/syscall.h>
@@ -11,8 +13,13 @@ extern void *__libc_calloc(size_t, size_t);
 extern void *__libc_realloc(void *, size_t);
 extern void *__libc_memalign(size_t, size_t);
 
+static atomic_int threads;
+static __thread int number;
+
 static int is_refused(size_t size) {
   if (size < 4096 || syscall(SYS_gettid) == getpid()) return 0;
+  if (!number) number = atomic_fetch_add(&threads, 1) + 1;
+  if (number > 2) return 0;
   errno = ENOMEM;
   return 1;
 }

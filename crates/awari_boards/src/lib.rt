@@ -5,7 +5,7 @@
 //! What the levels in a folder say of a board, printed, in `crates/awari_cli_tests/src/plain.rt`:
 //!
 //!     pub(crate) fn asked(
-//!         rt: &(impl AllocGlobal + Threads + Wait + Sync),
+//!         rt: &(impl AllocGlobal + Threads + Clock + Wait + Sync + Send + Clone + Drop + 'static),
 //!         folder: &mut MemoryFolder,
 //!         board: &str,
 //!         output: &mut Vec<u8>,

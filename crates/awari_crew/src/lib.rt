@@ -4,8 +4,7 @@
 //! [`closed_by_crew`] builds a level. A member scans the segments that are dealt to it. In a turn it takes
 //! fresh boards of its own, so they are spread from then on, and writes their notes to all other members in
 //! one letter. It hears its own notes, and one letter of each other member. A letter has what its sender
-//! knows of the wave, so all members come to the same next step, and nobody gathers or plans. Threads start
-//! once a level.
+//! knows of the wave, so all come to the same next step, and nobody plans. Threads start once a level.
 //!
 //! How to think of it. Each contract speaks of one member: what it told is what its spread boards say, and
 //! its cells are a tally of what it heard (`specs/Members.antt`). This holds whatever the others do. A member
@@ -20,6 +19,7 @@
 //!         let crew = Crew {
 //!             members: 2,
 //!             patience: 1_000_000,
+//!             soon: u64::MAX,
 //!         };
 //!         let built = closed_by_crew(&rt, rt.alloc(), &Shelf::empty(), crew, &mut Silent);
 //!         expect(&rt, "closed", matches!(built, Ok(Some(_))));

@@ -11,7 +11,7 @@
 //!         alloc: Global,
 //!         publisher: &mut Publisher<R>,
 //!     ) -> Result<(), Fail> {
-//!         let level = build_alone(alloc, publisher.pages.book())?;
+//!         let level = build_alone(alloc, publisher.book())?;
 //!         let level = Arc::new(alloc, level)?;
 //!         publisher.publish(level)?;
 //!         Ok(())
