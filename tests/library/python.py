@@ -5,6 +5,7 @@ files and numbers that are wrong are refused with what is wrong, and no call wai
 with levels 0 to 5 at least. It prints each line that is not so, and ends with 0 only if there is none.
 """
 import copy
+import csv
 import hashlib
 import multiprocessing
 import os
@@ -201,6 +202,8 @@ def try_numbers(levels):
     sys.unraisablehook = sys.__unraisablehook__
     expect("a board above all levels", refused(lambda: levels.entry([25] + [0] * 11)), "59 NotYet")
     expect("the wheel's version", wheel_of_awari.version(), awari.version())
+    with open(TOP / "docs" / "levels.csv", newline="") as table:
+        expect("the greatest limit", awari._GREATEST_LIMIT, max(int(row["limit"]) for row in csv.DictReader(table)))
     for name in ("package.json", "rust/Cargo.toml"):
         found = re.search(r'^ *"?version"?\W+([0-9.]+)"', (TOP / "bindings" / name).read_text(), re.MULTILINE)
         expect(f"the version of {name}", found[1], awari.version())
