@@ -2,7 +2,7 @@
 use Rattle.std.proofs.Common.{◌≡◌, ℕ, zero, suc, ◌+◌, ◌<◌, Bool, true, false, cond, List, [], ◌∷◌, ◌++◌, length, take, map, get_or, fold, ℤ, int_lt, ◌<ℤ◌, ◌≤ℤ◌, refl, sym, ap, ◌∙◌, arith}
 use Rattle.std.proofs.lemmas.Bool.Decides.{nat_tests}
 use Rattle.std.proofs.lemmas.Int.{ints}
-use Rattle.std.proofs.lemmas.List.{take-map}
+use Rattle.std.proofs.lemmas.List.{take-map, take-take}
 use Rattle.std.proofs.lemmas.List.Sums.{fold-append}
 use Rattle.awari_queries.specs.Holding.{first, placed, sorted}
 
@@ -27,11 +27,6 @@ less-not a b is =
     let h : a <ℤ b = less a b is in
     not_less-from b a (omega (arith, ints))
 
-take-take : {A : Type 0} (n : ℕ) (l : List A) → take n (take (suc n) l) ≡ take n l
-take-take zero l = refl
-take-take (suc n) [] = refl
-take-take (suc n) (y ∷ ys) = ap (λ t. y ∷ t) (take-take n ys)
-
 -- the first ones with one more are those of the first ones with it
 pub take-placed : {A : Type 0} (by : A → ℤ) (x : A) (n : ℕ) (l : List A) → take n (placed by x l) ≡ take n (placed by x (take n l))
 take-placed by x zero l = refl
@@ -40,7 +35,7 @@ take-placed by x (suc n) (y ∷ ys) = go (int_lt (by x) (by y)) (take-placed by 
   where
     go : (b : Bool) → take n (placed by x ys) ≡ take n (placed by x (take n ys))
         → take (suc n) (cond b (x ∷ y ∷ ys) (y ∷ placed by x ys)) ≡ take (suc n) (cond b (x ∷ y ∷ take n ys) (y ∷ placed by x (take n ys)))
-    go true rest = ap (λ t. x ∷ t) (sym (take-take n (y ∷ ys)))
+    go true rest = ap (λ t. x ∷ t) (sym (take-take n (suc n) (y ∷ ys) (omega arith)))
     go false rest = ap (λ t. y ∷ t) rest
 
 pub sorted-push : {A : Type 0} (by : A → ℤ) (xs : List A) (x : A) → sorted by (xs ++ x ∷ []) ≡ placed by x (sorted by xs)
@@ -52,12 +47,7 @@ first-placed by x (suc n) l = take-placed by x (suc n) l
 
 pub first-first : {A : Type 0} (n : ℕ) (l : List A) → first n (first n l) ≡ first n l
 first-first zero l = refl
-first-first (suc n) l = take-idem (suc n) l
-  where
-    take-idem : {A : Type 0} (n : ℕ) (l : List A) → take n (take n l) ≡ take n l
-    take-idem zero l = refl
-    take-idem (suc n) [] = refl
-    take-idem (suc n) (y ∷ ys) = ap (λ t. y ∷ t) (take-idem n ys)
+first-first (suc n) l = take-take (suc n) (suc n) l (omega arith)
 
 -- the first ones of a list with one more are made of the first ones of the list
 pub first-push : {A : Type 0} (n : ℕ) (by : A → ℤ) (xs : List A) (x : A) → first n (sorted by (xs ++ x ∷ [])) ≡ first n (placed by x (first n (sorted by xs)))
