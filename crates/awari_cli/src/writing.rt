@@ -102,13 +102,14 @@ fn run_build_alone<
     status
 }
 
-/// Tells `errors` that one thread built some levels in place of several, if it was so.
+/// Tells `errors` that one thread built some levels in place of several, if it was so: the processors were
+/// busy, or a thread lacked memory.
 fn tell_if_given_up<E: Write>(way: Way, errors: &mut E) {
     if way.gave_up() {
         // There is nowhere to say that this could not be written.
         print(
             errors,
-            &format_args!("the processors are busy, so one thread built some levels alone"),
+            &format_args!("several threads gave up, so one thread built some levels alone"),
         );
     }
 }

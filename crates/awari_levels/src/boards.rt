@@ -135,8 +135,8 @@ fn refuse_boards<W: Replies>(writer: &mut W, query: &BoardsQuery<'_>, fault: NoA
 }
 
 /// Prints the boards of a level that the query asks for, by rank or sorted, or how many there are, or the
-/// refusal, in the form of the lines. It takes memory for the levels, for boards that threads look at, and for those that are sorted. If
-/// it asks for files that nobody verified, it takes none for levels.
+/// refusal, in the form of the lines. It takes memory for the levels, for boards that threads look at, and for
+/// those that are sorted. If it asks for files that nobody verified, it takes none for levels.
 pub fn run_boards<T: Threads + Sync, F: Folder, W: Replies>(
     rt: &T,
     alloc: Global,

@@ -163,24 +163,14 @@ fn wish_of(query: &CountsQuery<'_>) -> Result<Wish, NoAnswer>
     ensures asked { IfOk result (IsWish query.now) }
     ensures none { IfErr result (IsRefused query.now) }
 {
-    let Some(level) = query.level else {
-        return Err(NoAnswer::Column {
-            fault: NoColumn::Level,
-        });
-    };
-    let Some(by) = query.by else {
-        return Err(NoAnswer::Column {
-            fault: NoColumn::By,
-        });
-    };
-    match asked_pair(by) {
-        Ok(pair) => Ok(Wish {
-            level,
-            pair,
-            form: form_of(query.json, query.csv),
-        }),
-        Err(fault) => Err(NoAnswer::Column { fault }),
-    }
+    let level = query.level.ok_or(NoColumn::Level)?;
+    let by = query.by.ok_or(NoColumn::By)?;
+    let pair = asked_pair(by)?;
+    Ok(Wish {
+        level,
+        pair,
+        form: form_of(query.json, query.csv),
+    })
 }
 
 /// Prints how many boards of a level have each pair of numbers, by the first and then by the second. Pairs
