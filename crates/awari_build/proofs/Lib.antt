@@ -1,1 +1,2 @@
 pub mod Gains
+pub mod OnePart

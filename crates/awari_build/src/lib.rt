@@ -1,5 +1,8 @@
-//! The next level of a shelf, built whole: in segments, by one thread or by a crew, or by several owners
-//! in threads.
+//! The next level of a shelf, built whole: by one part, by a crew of one or more members, or by several
+//! owners in threads.
+//!
+//! [`build_together`] is the fastest. One thread is a crew of one there, which starts no thread.
+//! [`build_alone`] is the plainest, and needs no handle.
 //!
 //! The level is proved right, and to be the one with the lowest plans, so nothing verifies it when the
 //! program runs. [`build_alone`] and [`build_together`] always return. Nothing proves that
@@ -25,7 +28,6 @@ mod owned;
 mod teams;
 mod telling;
 mod together;
-mod waves;
 
 pub use alone::{build_alone, build_alone_with_progress};
 pub use awari_pace::{MOST_OWNERS, MOST_ROOM, MOST_SWEEPS, Pace};

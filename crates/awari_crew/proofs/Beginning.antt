@@ -12,7 +12,7 @@ use Rattle.awari_table.specs.Images.{table_of}
 use Rattle.awari_crew.specs.Begun.{IsBegun}
 use Rattle.awari_crew.specs.Homes.{ComesHome, brought}
 use Rattle.awari_crew.specs.Members.{IsSound, Kept, ears, heard_of, parts_of, told_by}
-use Rattle.awari_crew.specs.Tellings.{Tell, Telling}
+use Rattle.awari_segments.specs.Tellings.{Tell, Telling}
 use Rattle.awari_crew.specs.declared.homes.Home.{Home}
 use Rattle.awari_crew.specs.declared.letters.Letter.{Letter}
 use Rattle.awari_crew.specs.declared.members.Member.{Member}

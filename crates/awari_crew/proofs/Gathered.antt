@@ -15,7 +15,7 @@ use Rattle.awari_lines.specs.Rings.{IsOther, owners_of, received_from, sent_to}
 use Rattle.awari_lines.specs.declared.ends.Ends.{Ends}
 use Rattle.awari_crew.specs.Homes.{AreHome, brought, ends_of}
 use Rattle.awari_crew.specs.Members.{ears, told_by, told_to}
-use Rattle.awari_crew.specs.Tellings.{HearsAll, Tell, TellSpread, Telling}
+use Rattle.awari_segments.specs.Tellings.{HearsAll, Tell, TellSpread, Telling}
 use Rattle.awari_crew.specs.declared.homes.Home.{Home}
 use Rattle.awari_crew.specs.declared.letters.Letter.{Letter}
 use Rattle.awari_crew.proofs.Sounds.{ears_other, ears_own}

@@ -10,7 +10,7 @@ use Rattle.awari_table.specs.declared.images.Image.{Image}
 use Rattle.awari_crew.specs.Homes.{AllComeHome, AreCrew, AreHome, ComesHome, IsTasked, brought, ends_from, ends_of}
 use Rattle.awari_crew.specs.Members.{IsSound}
 use Rattle.std.specs.declared.alloc.Global.{Global}
-use Rattle.awari_crew.specs.declared.halts.Halt.{Halt}
+use Rattle.awari_segments.specs.declared.halts.Halt.{Halt}
 use Rattle.awari_crew.proofs.Gathered.{get_has}
 use Rattle.awari_crew.specs.declared.homes.Home.{Home}
 use Rattle.awari_crew.specs.declared.letters.Letter.{Letter}

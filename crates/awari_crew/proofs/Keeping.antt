@@ -5,9 +5,9 @@ use Rattle.awari_block.specs.Part.{Part}
 use Rattle.awari_lines.specs.Rings.{IsOther, SameHistory, SamePairs}
 use Rattle.awari_lines.specs.declared.ends.Ends.{Ends}
 use Rattle.awari_lines.proofs.Grids.{same_pairs}
-use Rattle.awari_crew.specs.Members.{IsSound, Kept, Receives, SameTask, SendsAll, Speaks, parts_of, told_by}
-use Rattle.awari_crew.specs.Tellings.{HearsMore, HearsTelling, Telling, telling_of}
-use Rattle.awari_waves.specs.declared.rows.Row.{Row}
+use Rattle.awari_crew.specs.Members.{IsSound, Kept, Receives, SameTask, SendsAll, parts_of, told_by}
+use Rattle.awari_segments.specs.Tellings.{HearsMore, HearsTelling, Telling, Tells, telling_of}
+use Rattle.awari_segments.specs.declared.rows.Row.{Row}
 use Rattle.awari_crew.specs.declared.letters.Letter.{Letter}
 use Rattle.awari_crew.specs.declared.members.Member.{Member}
 use Rattle.awari_crew.proofs.Posts.{pairs_then}
@@ -69,21 +69,21 @@ kept_heard a b j letter new shelf level log is_other receives parts each = recor
 }
 
 -- boards are taken, and their notes told
-told : (a mid b : Member) (t : Telling) (new : List Part) → SameTask a mid → Speaks a.level (2 ^ a.log) t (parts_of a) (parts_of mid) → SendsAll t a.ends b.ends → EachTo (HearsTelling (2 ^ a.log) t) (parts_of mid) new
+told : (a mid b : Member) (t : Telling) (new : List Part) → SameTask a mid → Tells a.level (2 ^ a.log) t (parts_of a) (parts_of mid) → SendsAll t a.ends b.ends → EachTo (HearsTelling (2 ^ a.log) t) (parts_of mid) new
     → b.shelf ≡ a.shelf → b.level ≡ a.level → b.log ≡ a.log → parts_of b ≡ new → Kept a b
-told a mid b t new same speaks sends each shelf level log parts = record {
+told a mid b t new same tells sends each shelf level log parts = record {
   shelf = shelf;
   level = level;
   log = log;
   pairs = sends.pairs;
-  sound = λ value sound. moved value a b b.ends new level log refl parts (sound_told value a.level (2 ^ a.log) a.ends b.ends (parts_of a) (parts_of mid) new t speaks sends each sound);
+  sound = λ value sound. moved value a b b.ends new level log refl parts (sound_told value a.level (2 ^ a.log) a.ends b.ends (parts_of a) (parts_of mid) new t tells sends each sound);
 }
 
-pub kept_told : (a b c d : Member) (row row' row'' : Row) (new : List Part) → SameTask a b → parts_of b ≡ parts_of a → SameTask b c → Speaks b.level (2 ^ b.log) (telling_of b.stake row) (parts_of b) (parts_of c) → row' ≡ row → row'' ≡ row
+pub kept_told : (a b c d : Member) (row row' row'' : Row) (new : List Part) → SameTask a b → parts_of b ≡ parts_of a → SameTask b c → Tells b.level (2 ^ b.log) (telling_of b.stake row) (parts_of b) (parts_of c) → row' ≡ row → row'' ≡ row
     → SendsAll (telling_of c.stake row') c.ends d.ends → EachTo (HearsTelling (2 ^ c.log) (telling_of c.stake row'')) (parts_of c) new → d.shelf ≡ c.shelf → d.level ≡ c.level → d.log ≡ c.log → parts_of d ≡ new → Kept a d
-kept_told a b c d row row' row'' new first parts second speaks same same' sends each shelf level log last =
+kept_told a b c d row row' row'' new first parts second tells same same' sends each shelf level log last =
     kept_then a b d (kept_same a b first parts)
-    (told b c d (telling_of b.stake row) new second speaks
+    (told b c d (telling_of b.stake row) new second tells
     (subst₂ (λ s e. SendsAll (telling_of s row) e d.ends) second.stake second.ends (subst (λ r. SendsAll (telling_of c.stake r) c.ends d.ends) same sends))
     (subst₂ (λ s g. EachTo (HearsTelling (2 ^ g) (telling_of s row)) (parts_of c) new) second.stake second.log (subst (λ r. EachTo (HearsTelling (2 ^ c.log) (telling_of c.stake r)) (parts_of c) new) same' each))
     (shelf ∙ second.shelf) (level ∙ second.level) (log ∙ second.log) last)

@@ -1,7 +1,3 @@
-pub mod Surely
-pub mod Takes
-pub mod Steps
-pub mod Tells
 pub mod Posts
 pub mod Sounds
 pub mod Keeping

@@ -7,7 +7,7 @@ use Rattle.awari_lines.specs.declared.ends.Ends.{Ends}
 use Rattle.awari_lines.proofs.Grids.{rings_then, same_pairs}
 use Rattle.awari_crew.specs.Members.{Receives, SendsAll, told_by, told_to}
 use Rattle.awari_crew.specs.Posting.{SendsTo}
-use Rattle.awari_crew.specs.Tellings.{Telling}
+use Rattle.awari_segments.specs.Tellings.{Telling}
 use Rattle.awari_crew.specs.declared.letters.Letter.{Letter}
 
 pub pairs_then : (a b c : Ends Letter) → SamePairs a b → SamePairs b c → SamePairs a c

@@ -11,12 +11,12 @@ use Rattle.awari_heard.specs.Heard.{IsSeenAs}
 use Rattle.awari_heard.specs.Level.{no_part, part_at}
 use Rattle.awari_lines.specs.Rings.{IsOther, SameHistory, owners_of, received_from}
 use Rattle.awari_lines.specs.declared.ends.Ends.{Ends}
-use Rattle.awari_crew.specs.Members.{IsSound, Receives, SendsAll, Speaks, ears, heard_of, told_by}
-use Rattle.awari_crew.specs.Tellings.{HearsAll, HearsMore, HearsTelling, Tell, Telling, notes_to}
+use Rattle.awari_crew.specs.Members.{IsSound, Receives, SendsAll, ears, heard_of, told_by}
+use Rattle.awari_segments.specs.Tellings.{HearsAll, HearsMore, HearsTelling, Tell, Telling, Tells, notes_to}
 use Rattle.awari_crew.specs.declared.letters.Letter.{Letter}
 use Rattle.awari_crew.proofs.Posts.{other_before}
-use Rattle.awari_crew.proofs.Steps.{all_more}
-use Rattle.awari_crew.proofs.Tells.{spread_seen, tell_before, tell_either, tell_last}
+use Rattle.awari_segments.proofs.Steps.{all_more}
+use Rattle.awari_segments.proofs.Tells.{spread_seen, tell_before, tell_either, tell_last, tell_more}
 
 -- ---- what was heard of each member
 
@@ -120,7 +120,7 @@ module _ (value : List ℕ → ℤ) (level span : ℕ) (a b : Ends Letter) (old 
 
 -- ---- a member tells, and hears itself
 
-module _ (value : List ℕ → ℤ) (level span : ℕ) (a b : Ends Letter) (old mid new : List Part) (t : Telling) (speaks : Speaks level span t old mid) (sends : SendsAll t a b) (each : EachTo (HearsTelling span t) mid new)
+module _ (value : List ℕ → ℤ) (level span : ℕ) (a b : Ends Letter) (old mid new : List Part) (t : Telling) (tells : Tells level span t old mid) (sends : SendsAll t a b) (each : EachTo (HearsTelling span t) mid new)
     (sound : IsSound value level span a old) where
   abbrev us : List Telling
   us = sound.tellings
@@ -154,17 +154,17 @@ module _ (value : List ℕ → ℤ) (level span : ℕ) (a b : Ends Letter) (old 
   sound_told = record {
     tellings = us ++ t ∷ [];
     sent = λ k is. let was = other_before a b k sends.pairs is in sends.sent k was ∙ ap (λ l. l ++ t ∷ []) (sound.sent k was);
-    spread = spread_seen level span mid new (us ++ t ∷ []) (all_seen (λ p. notes_to (p.start / span) t) mid new each) (speaks.spread us sound.spread);
+    spread = spread_seen level span mid new (us ++ t ∷ []) (all_seen (λ p. notes_to (p.start / span) t) mid new each) (tell_more level span t old mid us tells sound.spread);
     hears = λ i h.
         let many = each.many in
-        let as_many = speaks.same.many in
+        let as_many = tells.same.many in
         let few : i < length mid = omega (arith, h, many) in
         let low : i < length old = omega (arith, few, as_many) in
         let at = (part_at mid i).start / span in
         subst (λ members. HearsAll value span members (ears b (us ++ t ∷ [])) (part_at new i)) (sym owners)
         (all_more value span (owners_of a) (ears a us) (ears b (us ++ t ∷ [])) (notes_to at t) (part_at mid i) (part_at new i) (each.each i no_part few) (told_still at)
         (λ m has. (a.owner, own_low, subst (λ l. Tell l at m) (sym own_more) (tell_last (ears a us a.owner) t at m has))) (told_either at)
-        (taken_hears (part_at old i) (part_at mid i) (ears a us) (speaks.same.each i no_part low) (sound.hears i low)));
+        (taken_hears (part_at old i) (part_at mid i) (ears a us) (tells.same.each i no_part low) (sound.hears i low)));
   }
     where
       owners : owners_of b ≡ owners_of a

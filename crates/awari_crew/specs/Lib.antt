@@ -1,5 +1,3 @@
-pub mod Tellings
-pub mod Taken
 pub mod Members
 pub mod Posting
 pub mod Homes

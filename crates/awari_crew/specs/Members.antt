@@ -1,12 +1,11 @@
 -- What a member of a crew keeps between two turns, and what a turn does to its rings.
 use Rattle.std.specs.Prelude.{◌≡◌, ◌≢◌, ◌==◌, if◌then◌else◌, ℕ, ◌^◌, ◌<◌, List, [], ◌∷◌, ◌++◌, length, map, ℤ}
 use Rattle.std.specs.Arc.{arc_value}
-use Rattle.awari_block.specs.Each.{EachTo}
 use Rattle.awari_block.specs.Part.{Part}
 use Rattle.awari_heard.specs.Level.{part_at}
 use Rattle.awari_lines.specs.Rings.{IsOther, SamePairs, owners_of, received_from, sent_to}
 use Rattle.awari_lines.specs.declared.ends.Ends.{Ends}
-use Rattle.awari_crew.specs.Tellings.{HearsAll, TellSpread, Telling, telling_of}
+use Rattle.awari_segments.specs.Tellings.{HearsAll, TellSpread, Telling, telling_of}
 use Rattle.awari_crew.specs.declared.letters.Letter.{Letter}
 use Rattle.awari_crew.specs.declared.members.Member.{Member}
 
@@ -47,11 +46,6 @@ pub record Receives (j : ℕ) (letter : Letter) (a b : Ends Letter) : Type 0 whe
   pub sent : (k : ℕ) → k ≢ a.owner → sent_to b k ≡ sent_to a k
   pub came : received_from b j ≡ received_from a j ++ letter ∷ []
   pub others : (k : ℕ) → k ≢ a.owner → k ≢ j → received_from b k ≡ received_from a k
-
--- boards were taken, and these are their notes
-pub record Speaks (level span : ℕ) (t : Telling) (old new : List Part) : Type 0 where
-  pub same : EachTo (λ (p q : Part). q ≡ record p { fresh = q.fresh }) old new
-  pub spread : (tellings : List Telling) → TellSpread level span old tellings → TellSpread level span new (tellings ++ t ∷ [])
 
 abbrev pub parts_of : Member → List Part
 parts_of m = m.segments.items

@@ -3,7 +3,7 @@ use Rattle.std.specs.Prelude.{◌≡◌, ◌≢◌, ℕ, [], ◌∷◌, ◌++◌
 use Rattle.awari_lines.specs.Rings.{IsOther, SamePairs, received_from}
 use Rattle.awari_lines.specs.declared.ends.Ends.{Ends}
 use Rattle.awari_crew.specs.Members.{told_to}
-use Rattle.awari_crew.specs.Tellings.{Telling}
+use Rattle.awari_segments.specs.Tellings.{Telling}
 use Rattle.awari_crew.specs.declared.letters.Letter.{Letter}
 
 -- this was told to the member of this number, if it is another, and nothing else changed

@@ -7,11 +7,11 @@ ghost use Rattle.awari_table.specs.Images.{table_of};
 ghost use Rattle.awari_table.specs.declared.TheConstants.{HIGHEST_LEVEL};
 
 use crate::gathering::gather;
-use crate::halts::Halt;
 use crate::making::{Task, crew};
 use crate::starting::stay_all;
 use awari_block::ClosedPart;
 use awari_heard::Progress;
+use awari_segments::Halt;
 use awari_table::Shelf;
 use std::alloc::Global;
 use std::thread::Threads;
@@ -34,7 +34,8 @@ pub struct Crew {
 /// 16 members.
 ///
 /// Refused as `Memory` if memory runs out for a member, and as `Unfit` if a thread could not be started, a
-/// member waited in vain, or the crew took longer than one thread would. It takes memory for nine bytes a board, and for fresh boards and notes.
+/// member waited in vain, or the crew took longer than one thread would. It takes memory for nine bytes a
+/// board, and for fresh boards and notes.
 pub fn closed_by_crew<R: Threads + Clock + Send + Clone + Drop + 'static, P: Progress>(
     rt: &R,
     alloc: Global,

@@ -8,13 +8,12 @@ ghost use Rattle.awari_crew.specs.Gathered.{AreAligned};
 ghost use Rattle.awari_crew.specs.Homes.{AreHome, brought, ends_of};
 ghost use Rattle.awari_lines.specs.Rings.{IsGrid};
 
-use crate::halts::Halt;
 use crate::homes::Home;
 use crate::letters::Letter;
 use awari_block::ClosedPart;
 use awari_lines::{Ends, settle};
 use awari_rank::{ranks_tell_boards_apart, size};
-use awari_waves::{Segment, closed_all, due_from};
+use awari_segments::{Halt, Segment, closed_all, due_from};
 use std::alloc::Global;
 
 /// The closed parts of the level that these members built, in order of rank. Refused as `Unfit` if a letter

@@ -5,13 +5,12 @@ ghost use Rattle.awari_crew.specs.Homes.{ComesHome};
 ghost use Rattle.awari_crew.specs.Begun.{IsBegun};
 ghost use Rattle.awari_table.specs.Images.{table_of};
 
-use crate::halts::Halt;
 use crate::letters::Letter;
 use crate::members::Member;
 use awari_heard::Progress;
 use awari_lines::Ends;
 use awari_rank::size;
-use awari_waves::{Segment, numbered_segment, segments_in};
+use awari_segments::{Halt, Segment, numbered_segment, segments_in};
 use std::time::{Clock, Instant};
 
 /// What a member brings home: its ends of the rings, and its segments.

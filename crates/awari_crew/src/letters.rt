@@ -1,7 +1,7 @@
 //! What members of a crew write to each other.
 
 use awari_block::{Stake, nearer};
-use awari_waves::Row;
+use awari_segments::Row;
 use std::sync::Arc;
 
 /// How a member stands in a turn, once it took its boards. All members come to the same next step, since
@@ -12,7 +12,8 @@ pub struct Head {
     pub spread: bool,
     /// Whether boards of the open wave may be left.
     pub left: bool,
-    /// The least distance of another fresh board.
+    /// The least distance of a fresh board. If it spread boards none is told, since the next wave is opened
+    /// then.
     pub least: Option<u32>,
     /// How many boards it spread so far.
     pub boards: usize,

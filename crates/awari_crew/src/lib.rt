@@ -29,17 +29,12 @@
 
 mod crews;
 mod gathering;
-mod halts;
-mod hearing;
 mod homes;
 mod letters;
 mod listening;
 mod making;
 mod members;
-mod opening;
 mod posting;
 mod starting;
-mod taking;
 
 pub use crews::{Crew, closed_by_crew};
-pub use halts::Halt;

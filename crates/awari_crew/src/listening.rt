@@ -4,11 +4,10 @@ ghost use Rattle.std.specs.Prelude.{◌<◌, OnOk};
 ghost use Rattle.awari_crew.specs.Members.{Kept};
 ghost use Rattle.awari_lines.specs.Rings.{IsOther, owners_of};
 
-use crate::halts::Halt;
-use crate::hearing::hear_rows;
 use crate::letters::Head;
 use crate::members::Member;
 use crate::posting::look_for_letter;
+use awari_segments::{Halt, hear_rows};
 use std::hint::spin_loop;
 use std::thread::{sleep, yield_now};
 use std::time::{Clock, Duration, Instant};

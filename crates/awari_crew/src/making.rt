@@ -6,15 +6,14 @@ ghost use Rattle.awari_crew.specs.Homes.{AreCrew};
 ghost use Rattle.awari_table.specs.declared.TheConstants.{HIGHEST_LEVEL};
 
 use crate::crews::Crew;
-use crate::halts::Halt;
 use crate::letters::Letter;
 use crate::members::Member;
 use awari_block::Stake;
 use awari_index::Index;
 use awari_lines::{Ends, grid};
 use awari_rank::size;
+use awari_segments::{Chunk, Halt, log_of};
 use awari_table::Shelf;
-use awari_waves::{Chunk, log_of};
 use std::alloc::Global;
 use std::sync::Arc;
 use std::time::Duration;
@@ -46,8 +45,8 @@ pub struct Task {
 }
 
 impl Task {
-    /// The shelf's next level, for this crew. Condition: the shelf has at most `HIGHEST_LEVEL` levels. Refused only if memory
-    /// runs out.
+    /// The shelf's next level, for this crew. Condition: the shelf has at most `HIGHEST_LEVEL` levels. Refused
+    /// only if memory runs out.
     pub(crate) fn of(alloc: Global, shelf: &Shelf, crew: Crew) -> Result<Task, Halt>
         requires low { length shelf.now ≤ HIGHEST_LEVEL }
         ensures { IfOk result (λ task. task.shelf ≡ shelf.now) }
@@ -125,10 +124,7 @@ fn member(alloc: Global, task: &Task, ends: Ends<Letter>) -> Result<Member, Halt
             wave: 0,
         },
         segments: Vec::new(alloc),
-        chunk: Chunk {
-            lost: Vec::new(alloc),
-            won: Vec::new(alloc),
-        },
+        chunk: Chunk::new(alloc),
         last: None,
         spare: None,
         crew: task.crew,

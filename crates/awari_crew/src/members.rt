@@ -4,21 +4,17 @@ ghost use Rattle.std.specs.Prelude.{◌≡◌, ◌<◌, ◌≤◌, false, length
 ghost use Rattle.std.specs.Arc.{arc_value};
 
 use crate::crews::Crew;
-use crate::halts::Halt;
-use crate::hearing::hear_rows;
 use crate::letters::{Head, Letter};
 use crate::listening::since;
-use crate::opening::{nearest, open_gain, open_wave};
 use crate::posting::send_all;
-use crate::taking::{are_below, take_boards};
 use awari_block::Stake;
-use awari_board::moves_keep_boards;
 use awari_heard::{Progress, Told};
 use awari_index::Index;
 use awari_lines::Ends;
-use awari_rank::{ranks_tell_boards_apart, size};
+use awari_segments::{
+    Chunk, Finder, Halt, Row, Segment, Turn, hear_rows, nearest, open_gain, open_wave, take_notes,
+};
 use awari_table::Shelf;
-use awari_waves::{Chunk, Finder, Row, Segment, find_row};
 use std::alloc::Global;
 use std::sync::Arc;
 use std::time::{Clock, Duration, Instant};
@@ -62,8 +58,8 @@ pub struct Member {
 
 impl Member {
     ghost use Rattle.std.specs.Prelude.{◌≡◌, ◌<◌, ◌^◌, Ok, OnOk, false};
-    ghost use Rattle.awari_crew.specs.Members.{Kept, SameTask, Speaks, parts_of};
-    ghost use Rattle.awari_crew.specs.Tellings.{telling_of};
+    ghost use Rattle.awari_crew.specs.Members.{Kept, SameTask, parts_of};
+    ghost use Rattle.awari_segments.specs.Tellings.{Tells, telling_of};
 
     /// Takes turns until all gains are closed, or the level is not wanted any more. In a turn it tells the
     /// others what it spreads, and hears what they spread. As a gain is opened, and in the first turn of a
@@ -138,25 +134,21 @@ impl Member {
     /// left.
     fn speak(&mut self, row: &mut Row) -> Result<bool, Halt>
         ensures rest { OnOk result (SameTask self.old self.new) }
-        ensures speaks { OnOk result (Speaks self.old.level (2 ^ self.old.log) (telling_of self.old.stake row.new) (parts_of self.old) (parts_of self.new)) }
+        ensures tells { OnOk result (Tells self.old.level (2 ^ self.old.log) (telling_of self.old.stake row.new) (parts_of self.old) (parts_of self.new)) }
     {
-        moves_keep_boards();
-        ranks_tell_boards_apart();
         if self.stake.level != self.level || self.stake.gain == 0 {
-            return Err(Halt::Unfit);
-        }
-        let segments = self.segments.as_mut_slice();
-        let left = take_boards(self.stake, BOARDS_A_TURN, segments, &mut self.chunk)?;
-        let (lost, won) = (self.chunk.lost.as_slice(), self.chunk.won.as_slice());
-        let boards = size(self.level);
-        if !are_below(lost, boards) || !are_below(won, boards) {
             return Err(Halt::Unfit);
         }
         let finder = Finder {
             index: &*self.index,
             log: self.log,
         };
-        find_row(finder, lost, won, row)?;
+        let turn = Turn {
+            stake: self.stake,
+            boards: BOARDS_A_TURN,
+        };
+        let segments = self.segments.as_mut_slice();
+        let left = take_notes(finder, turn, segments, &mut self.chunk, row)?;
         Ok(left)
     }
 
@@ -179,10 +171,16 @@ impl Member {
         for segment in &self.segments {
             boards = boards.saturating_add(segment.boards_spread());
         }
+        let spread = !self.chunk.lost.is_empty() || !self.chunk.won.is_empty();
+        let least = if spread {
+            None
+        } else {
+            nearest(self.segments.as_slice())
+        };
         Head {
-            spread: !self.chunk.lost.is_empty() || !self.chunk.won.is_empty(),
+            spread,
             left,
-            least: nearest(self.segments.as_slice()),
+            least,
             boards,
         }
     }

@@ -4,14 +4,13 @@ ghost use Rattle.std.specs.Prelude.{◌≡◌, ◌<◌, IfOk, IfSome, None, Ok, 
 ghost use Rattle.std.specs.Arc.{arc_value};
 ghost use Rattle.awari_crew.specs.Members.{Receives, SendsAll};
 ghost use Rattle.awari_crew.specs.Posting.{SendsTo};
-ghost use Rattle.awari_crew.specs.Tellings.{telling_of};
+ghost use Rattle.awari_segments.specs.Tellings.{telling_of};
 ghost use Rattle.awari_lines.specs.Rings.{IsOther, SameHistory, owners_of};
 
-use crate::halts::Halt;
 use crate::letters::{Head, Letter};
 use awari_block::Stake;
 use awari_lines::Ends;
-use awari_waves::Row;
+use awari_segments::{Halt, Row};
 use std::sync::Arc;
 
 /// Sends a letter with this head and row to each other member. Refused as `Unfit` if a ring is full, and

@@ -6,10 +6,10 @@ ghost use Rattle.std.specs.declared.alloc.Global.{Global};
 ghost use Rattle.awari_crew.specs.Homes.{AllComeHome, ComesHome};
 ghost use Rattle.awari_crew.specs.declared.homes.Home.{Home as AHome};
 
-use crate::halts::Halt;
 use crate::homes::{Home, stay};
 use crate::members::Member;
 use awari_heard::{Progress, Silent};
+use awari_segments::Halt;
 use std::alloc::Global;
 use std::snapshot::Snapshot;
 use std::thread;

@@ -81,7 +81,7 @@ fn a_crew_of_three_builds_levels_0_to_8(rt: HostRuntime) -> Result<(), Fail> {
 }
 
 #[test]
-fn two_threads_build_level_2(rt: HostRuntime) -> Result<(), Fail> {
+fn one_of_two_threads_builds_level_2(rt: HostRuntime) -> Result<(), Fail> {
     let shelf = levels_below(rt.alloc(), 2)?;
     let level = build_together(&rt, rt.alloc(), &shelf, 2)?;
     expect_counts(&rt, &level, COUNTS[2]);

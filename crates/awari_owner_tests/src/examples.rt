@@ -1,9 +1,10 @@
 //! Examples that stand whole at the head of the library they call.
 
 use crate::expect::{expect, expect_equal};
+use awari_index::Index;
 use awari_lines::{grid, settle};
+use awari_segments::{log_of, nearest, scanned_segments};
 use awari_table::Shelf;
-use awari_waves::Analysis;
 use std::test::Fail;
 
 #[test]
@@ -15,11 +16,10 @@ fn rings_begin_empty(rt: HostRuntime) -> Result<(), Fail> {
 }
 
 #[test]
-fn level_0_needs_no_gain(rt: HostRuntime) -> Result<(), Fail> {
-    let analysis = Analysis::scan(rt.alloc(), &Shelf::empty())?;
-    let standing = (analysis.gain(), analysis.due(0));
-    expect_equal(&rt, "gain and due", standing, (1, None));
-    let parts = analysis.close(rt.alloc())?;
-    expect_equal(&rt, "blocks", parts.len(), 1);
+fn level_0_is_one_segment(rt: HostRuntime) -> Result<(), Fail> {
+    let index = Index::of(rt.alloc(), 0)?;
+    let segments = scanned_segments(rt.alloc(), &Shelf::empty(), &index, 1 << log_of(1))?;
+    let due = nearest(segments.as_slice());
+    expect_equal(&rt, "segments and due", (segments.len(), due), (1, None));
     Ok(())
 }

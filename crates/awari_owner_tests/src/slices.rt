@@ -5,10 +5,11 @@ ghost use Rattle.awari_table.specs.declared.TheConstants.{HIGHEST_LEVEL};
 
 use crate::counts::{COUNTS, expect_counts};
 use crate::shelves::one_level;
+use awari_segments::Halt;
 use awari_slices::{Draft, spread_slices};
 use awari_table::{Image, Shelf};
 use awari_verify::verify;
-use std::alloc::{AllocError, Global};
+use std::alloc::Global;
 use std::process::Abort;
 use std::sync::Arc;
 use std::test::Fail;
@@ -19,7 +20,7 @@ fn image_after(
     shelf: &Shelf,
     slices: u32,
     boards: usize,
-) -> Result<Option<Image>, AllocError>
+) -> Result<Option<Image>, Halt>
     requires { length shelf.now ≤ HIGHEST_LEVEL }
 {
     let draft = Draft::begin(alloc, shelf)?;

@@ -110,7 +110,8 @@ impl Held {
         }
     }
 
-    /// Builds a slice of the level that was begun, and says how far it is: 0, or 59 if none was, or 53.
+    /// Builds a slice of the level that was begun, and says how far it is: 0, or 59 if none was, or 53. That is
+    /// also for a note that does not fit, which nothing known brings about.
     pub(crate) fn spread(&mut self, boards: usize, out: &mut PlainDraft) -> u8
         ensures spreads { Spreads self.old.draft self.new.draft out.new result }
         ensures stored { self.new.stored ≡ self.old.stored }

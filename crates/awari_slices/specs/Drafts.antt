@@ -1,14 +1,32 @@
--- What holds of a level that is begun.
-use Rattle.std.specs.Prelude.{◌≡◌, ℕ, zero, suc, ◌+◌, ◌≤◌, ◌⊎◌, List}
+-- What is seen of a level that is begun, and how it goes on.
+use Rattle.std.specs.Prelude.{◌≡◌, ℕ, zero, suc, ◌+◌, ◌^◌, ◌<◌, ◌≤◌, ◌⊎◌, List, vec_len}
 use Rattle.awari_block.specs.Part.{Part}
-use Rattle.awari_waves.specs.Analyses.{AnalysisView, GoesOn}
-use Rattle.awari_waves.specs.Each.{AreFrom, HasDue, NoneAreFresh, PassesFirst}
+use Rattle.awari_heard.specs.Level.{AreWhole}
+use Rattle.awari_segments.specs.Each.{AreFrom, GoOn, HasDue, NoneAreFresh, PassesFirst}
+use Rattle.awari_segments.specs.Segments.{AreSegments}
 use Rattle.awari_slices.specs.declared.drafts.Draft.TheInside.{Inside}
 
--- No fresh board is nearer than the open wave, and if some are fresh a gain is open.
+-- the stones on the boards of the level, the open gain and wave, and its segments in order of rank
+pub record DraftView : Type 0 where
+  pub level : ℕ
+  pub gain : ℕ
+  pub wave : ℕ
+  pub parts : List Part
+
+-- All boards of the level are in segments of one length, of which each has the same stake.
 pub record IsDraft (d : Inside) : Type 0 where
-  pub from : AreFrom d.analysis.wave d.analysis.parts
-  pub opened : (d.analysis.gain ≤ d.analysis.level) ⊎ NoneAreFresh d.analysis.parts
+  pub low : d.stake.level ≤ 24
+  pub opened : 1 ≤ d.stake.gain
+  pub short : d.log < 32
+  pub numbers : vec_len d.segments < 2 ^ 32
+  pub grid : AreSegments d.stake (2 ^ d.log) d.segments.items
+  pub whole : AreWhole d.stake.level d.segments.items
+  pub indexed : d.index ≡ d.stake.level
+
+-- the same level goes on
+pub record GoesOn (old new : DraftView) : Type 0 where
+  pub level : new.level ≡ old.level
+  pub parts : GoOn old.parts new.parts
 
 -- of the least distance of a fresh board, the first block that has such boards has none afterwards
 abbrev pub SpreadsNearest : List Part → List Part → Type 0
@@ -16,12 +34,12 @@ SpreadsNearest old new = (dist : ℕ) × AreFrom dist old × HasDue dist old × 
 
 -- A slice of a level is built: the next gain is opened if no board is fresh, and else some boards are spread. So a loop of slices
 -- comes to an end.
-pub record IsSlice (old new : AnalysisView) : Type 0 where
+pub record IsSlice (old new : DraftView) : Type 0 where
   pub goes_on : GoesOn old new
   pub opens : NoneAreFresh old.parts → 2 ≤ old.gain → new.gain + 1 ≡ old.gain
   pub spreads : NoneAreFresh old.parts ⊎ SpreadsNearest old.parts new.parts
 
 -- this many slices are, one after the other
-abbrev pub AreSlices : ℕ → AnalysisView → AnalysisView → Type 0
+abbrev pub AreSlices : ℕ → DraftView → DraftView → Type 0
 AreSlices zero old new = new ≡ old
-AreSlices (suc n) old new = (mid : AnalysisView) × AreSlices n old mid × IsSlice mid new
+AreSlices (suc n) old new = (mid : DraftView) × AreSlices n old mid × IsSlice mid new

@@ -1,35 +1,47 @@
 //! A level that is begun.
 
-ghost use Rattle.std.specs.Prelude.{◌≡◌, ℕ, ℤ, ◌+◌, ◌≤◌, ◌↔◌, List, All, IfOk, IsTrue, length};
+ghost use Rattle.std.specs.Prelude.{◌≡◌, ℕ, ℤ, ◌+◌, ◌≤◌, ◌<◌, ◌↔◌, List, All, IfOk, IsTrue, length};
 ghost use Rattle.awari_block.specs.Counts.{spread_in};
+ghost use Rattle.awari_block.specs.Each.{EachTo};
 ghost use Rattle.awari_block.specs.Part.{IsClosed};
 ghost use Rattle.awari_heard.specs.Kept.{IsKept};
 ghost use Rattle.awari_heard.specs.Level.{AreHeard, AreWhole};
+ghost use Rattle.awari_segments.specs.Each.{NoneAreFresh, PassesFirst, SameFresh};
+ghost use Rattle.awari_slices.specs.Drafts.{AreSlices, GoesOn, IsSlice};
 ghost use Rattle.awari_table.specs.Images.{table_of};
 ghost use Rattle.awari_table.specs.declared.TheConstants.{HIGHEST_LEVEL};
-ghost use Rattle.awari_slices.specs.Drafts.{AreSlices, IsSlice, SpreadsNearest};
-ghost use Rattle.awari_waves.specs.Analyses.{GoesOn, IsNextAt};
-ghost use Rattle.awari_waves.specs.Each.{NoneAreFresh, HasDue};
 
-use awari_heard::{distances_fit, finish_closed, one_part_hears_all};
+use awari_block::Stake;
+use awari_heard::finish_closed;
+use awari_index::Index;
+use awari_rank::{ranks_tell_boards_apart, size};
+use awari_segments::{
+    Chunk, Finder, Halt, Row, Segment, Turn, closed_all, hear_rows, log_of, nearest, open_gain,
+    open_wave, scanned_segments, take_notes,
+};
 use awari_table::{Image, Shelf};
-use awari_waves::Analysis;
 use std::alloc::{AllocError, Global};
 use std::marker::Model;
 
 /// The next level of a shelf, while one thread builds it in slices.
 #[derive(Drop)]
 pub struct Draft {
-    analysis: Analysis,
+    index: Index,
+    /// A segment has 2 to this power of boards, the last one fewer.
+    log: u32,
+    /// What is open in each segment.
+    stake: Stake,
+    segments: Vec<Segment>,
+    chunk: Chunk,
+    row: Row,
 }
 
 impl Model for Draft {
-    ghost use Rattle.awari_waves.specs.Analyses.{AnalysisView};
-    ghost use Rattle.awari_slices.specs.Drafts.{IsDraft};
+    ghost use Rattle.awari_slices.specs.Drafts.{DraftView, IsDraft};
 
-    ghost Value = { AnalysisView };
+    ghost Value = { DraftView };
 
-    ghost view = { λ d. d.analysis };
+    ghost view = { λ d. record { level = d.stake.level; gain = d.stake.gain; wave = d.stake.wave; parts = d.segments.items } };
 
     ghost invariant = { IsDraft };
 }
@@ -43,50 +55,134 @@ impl Draft {
         ensures level { IfOk result (λ draft. draft.level ≡ length shelf.now) }
         ensures heard { IfOk result (λ draft. AreHeard (table_of shelf.now).value draft.parts) }
     {
-        let analysis = Analysis::scan(alloc, shelf)?;
-        Ok(Draft { analysis })
+        let level = shelf.levels();
+        let log = log_of(size(level));
+        let index = Index::of(alloc, level)?;
+        let segments = scanned_segments(alloc, shelf, &index, 1 << log)?;
+        let stake = Stake {
+            level,
+            gain: level + 1,
+            wave: 0,
+        };
+        Ok(Draft {
+            index,
+            log,
+            stake,
+            segments,
+            chunk: Chunk::new(alloc),
+            row: Row::new(alloc),
+        })
     }
 
     /// The gain that is open, one more than the level if none was opened yet.
     pub fn gain(&self) -> u8
         ensures { result ≡ self.now.gain }
     {
-        self.analysis.gain()
+        self.stake.gain
     }
 
     /// How many boards are settled and were spread.
     pub fn boards_spread(&self) -> usize
         ensures { result ≡ spread_in self.now.parts }
     {
-        self.analysis.boards_spread()
+        let mut boards: usize = 0;
+        for segment in &self.segments {
+            boards += segment.boards_spread();
+        }
+        boards
     }
 
     /// Whether all gains are closed.
     pub fn is_settled(&self) -> bool
         ensures { IsTrue result ↔ (self.now.gain ≡ 1) × NoneAreFresh self.now.parts }
     {
-        self.analysis.gain() == 1 && self.analysis.due(self.analysis.wave()).is_none()
+        self.stake.gain == 1 && nearest(self.segments.as_slice()).is_none()
     }
 
-    /// Spreads boards of the nearest distance, until this many that are lost are spread, or this many that are
-    /// won, or all; or opens the next gain, if no board is fresh. A level that is settled stays as it is.
-    /// It takes memory for fresh boards and for notes, and is refused only if that runs out; then the
-    /// level is lost.
-    pub fn spread(self, boards: usize) -> Result<Draft, AllocError>
-        requires { (value : List ℕ → ℤ) × AreHeard value self.parts }
+    /// Spreads boards of the nearest distance, this many or a few more, or all; or opens the next gain, if no
+    /// board is fresh. A level that is settled stays as it is. It takes memory for fresh boards and for notes.
+    /// Refused as `Memory` if that runs out, and as `Unfit` if a note does not fit, of which nothing is known;
+    /// then the level is lost.
+    pub fn spread(self, boards: usize) -> Result<Draft, Halt>
         ensures { IfOk result (IsSlice self) }
     {
-        let Draft { analysis } = self;
-        match analysis.due(analysis.wave()) {
+        match nearest(self.segments.as_slice()) {
             Some(dist) => {
-                let draft = spread_due(analysis, dist, boards)?;
-                Ok(draft)
+                let opened = self.at_wave(dist)?;
+                let after = opened.spread_open(boards)?;
+                Ok(after)
             }
-            None => {
-                let draft = opened(analysis)?;
-                Ok(draft)
+            None if self.stake.gain > 1 => {
+                let after = self.with_next_gain()?;
+                Ok(after)
             }
+            None => Ok(self),
         }
+    }
+
+    /// With the next smaller gain open.
+    fn with_next_gain(mut self) -> Result<Draft, Halt>
+        requires { 2 ≤ self.gain }
+        ensures goes_on { IfOk result (GoesOn self) }
+        ensures gain { IfOk result (λ after. after.gain + 1 ≡ self.gain) }
+    {
+        let gain = self.stake.gain - 1;
+        open_gain(gain, self.segments.as_mut_slice())?;
+        self.stake = Stake {
+            gain,
+            wave: 0,
+            ..self.stake
+        };
+        Ok(self)
+    }
+
+    /// With the wave of this distance open.
+    fn at_wave(mut self, dist: u32) -> Result<Draft, Halt>
+        ensures goes_on { IfOk result (GoesOn self) }
+        ensures wave { IfOk result (λ after. after.wave ≡ dist) }
+        ensures fresh { IfOk result (λ after. EachTo SameFresh self.parts after.parts) }
+    {
+        if dist == self.stake.wave {
+            return Ok(self);
+        }
+        open_wave(dist, self.segments.as_mut_slice())?;
+        self.stake = Stake {
+            wave: dist,
+            ..self.stake
+        };
+        Ok(self)
+    }
+
+    /// With this many fresh boards of the open wave spread.
+    fn spread_open(self, boards: usize) -> Result<Draft, Halt>
+        ensures goes_on { IfOk result (GoesOn self) }
+        ensures first { IfOk result (λ after. PassesFirst self.wave self.parts after.parts) }
+    {
+        ranks_tell_boards_apart();
+        let Draft {
+            index,
+            log,
+            stake,
+            mut segments,
+            mut chunk,
+            mut row,
+        } = self;
+        let finder = Finder { index: &index, log };
+        let turn = Turn {
+            stake,
+            boards: boards.max(1),
+        };
+        let all = segments.as_mut_slice();
+        take_notes(finder, turn, all, &mut chunk, &mut row)?;
+        hear_rows(log, stake, &row, all)?;
+        Ok(Draft {
+            index,
+            log,
+            stake,
+            segments,
+            chunk,
+            row,
+        })
     }
 
     /// The image of the level, once it is settled. Conditions: the shelf is that of the beginning, and all
@@ -99,16 +195,14 @@ impl Draft {
         ensures kept { IfOk result (IsKept shelf.now self.parts) }
         ensures parts { IfOk result (λ image. All IsClosed self.parts × AreWhole self.level self.parts) }
     {
-        let Draft { analysis } = self;
-        let parts = analysis.close(alloc)?;
+        let parts = closed_all(alloc, self.segments)?;
         let image = finish_closed(alloc, shelf, parts)?;
         Ok(image)
     }
 }
 
 /// The level after this many slices, each of this many boards.
-pub fn spread_slices(draft: Draft, slices: u32, boards: usize) -> Result<Draft, AllocError>
-    requires { (value : List ℕ → ℤ) × AreHeard value draft.parts }
+pub fn spread_slices(draft: Draft, slices: u32, boards: usize) -> Result<Draft, Halt>
     ensures goes_on { IfOk result (GoesOn draft) }
     ensures slices { IfOk result (AreSlices slices draft) }
 {
@@ -117,33 +211,4 @@ pub fn spread_slices(draft: Draft, slices: u32, boards: usize) -> Result<Draft, 
         after = after.spread(boards)?;
     }
     Ok(after)
-}
-
-/// With some boards of this distance spread, the least of a fresh board.
-fn spread_due(analysis: Analysis, dist: u32, boards: usize) -> Result<Draft, AllocError>
-    requires next { IsNextAt dist analysis }
-    requires due { HasDue dist analysis.parts }
-    requires whole { AreWhole analysis.level analysis.parts × (analysis.level ≤ 24) }
-    requires heard { (value : List ℕ → ℤ) × AreHeard value analysis.parts }
-    ensures goes_on { IfOk result (GoesOn analysis) }
-    ensures spreads { IfOk result (λ draft. SpreadsNearest analysis.parts draft.parts) }
-{
-    // Ghost: these bound dist + 1.
-    distances_fit();
-    one_part_hears_all();
-    let analysis = analysis.spread_some(dist, boards)?;
-    Ok(Draft { analysis })
-}
-
-/// With the next gain open, unless the last one is.
-fn opened(analysis: Analysis) -> Result<Draft, AllocError>
-    requires idle { NoneAreFresh analysis.parts }
-    ensures goes_on { IfOk result (GoesOn analysis) }
-    ensures opens { IfOk result (λ draft. 2 ≤ analysis.gain → draft.gain + 1 ≡ analysis.gain) }
-{
-    if analysis.gain() < 2 {
-        return Ok(Draft { analysis });
-    }
-    let analysis = analysis.open_gain()?;
-    Ok(Draft { analysis })
 }

@@ -1,5 +1,5 @@
 use Rattle.std.specs.Arc.{arc_value}
-use Rattle.awari_crew.specs.Tellings.{telling_of}
+use Rattle.awari_segments.specs.Tellings.{telling_of}
 use Rattle.awari_crew.proofs.Posts.{SendsBelow}
 use Rattle.awari_crew.proofs.posting.send_all.Given as goal
 

@@ -1,13 +1,11 @@
 use Rattle.std.proofs.Common.{◌≡◌, ◌+◌, suc, refl, subst, arith}
 use Rattle.awari_slices.specs.Drafts.{AreSlices}
-use Rattle.awari_waves.proofs.Keeping.{go_none, goes_both}
+use Rattle.awari_segments.proofs.Keeping.{go_none}
+use Rattle.awari_slices.proofs.Going.{goes_both}
 use Rattle.awari_slices.proofs.drafts.spread_slices.Goals as goal
 
 pub loop-slice-init : goal.loop-slice-init
 loop-slice-init c = record { goes_on = record { level = refl; parts = go_none _ }; slices = refl }
-
-pub spread-requires : goal.spread-requires
-spread-requires c = (c.requires.0, c.loop-slice.invariant.goes_on.parts.heard c.requires.0 c.requires.1)
 
 pub loop-slice-preserved : goal.loop-slice-preserved
 loop-slice-preserved c =

@@ -1,5 +1,4 @@
-use Rattle.awari_slices.specs.Drafts.{AreSlices}
-use Rattle.awari_waves.specs.Analyses.{GoesOn}
+use Rattle.awari_slices.specs.Drafts.{AreSlices, GoesOn}
 use Rattle.awari_slices.proofs.drafts.spread_slices.Given as goal
 
 abbrev pub invariant-loop-slice : goal.invariant-loop-slice

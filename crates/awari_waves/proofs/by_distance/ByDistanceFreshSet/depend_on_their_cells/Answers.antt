@@ -1,5 +1,0 @@
-use Rattle.awari_waves.proofs.Joining.{signed_stays}
-use Rattle.awari_waves.proofs.by_distance.ByDistanceFreshSet.depend_on_their_cells.Goals as goal
-
-pub returns-clause-right : goal.returns-clause-right
-returns-clause-right c = signed_stays

@@ -1,9 +1,0 @@
-pub mod Rows
-pub mod Waves
-pub mod Each
-pub mod Analyses
-pub mod AnalysisFields
-pub mod Fronts
-pub mod Ahead
-pub mod Lists
-pub mod ByDistance
