@@ -40,15 +40,6 @@ impl<T> Ends<T> {
         self.pairs.len() + 1
     }
 
-    /// How many items are known to wait for the owner. It tells whether they are worth threads; no
-    /// clause speaks of it.
-    pub fn waiting(&self) -> usize {
-        self.pairs.iter().fold(
-            0,
-            |sum: usize, pair: &RingPair<T>| sum.saturating_add(pair.consumer.cached_slots()),
-        )
-    }
-
     /// Sends an item to another owner of the grid, or hands it back if no room is known even after a
     /// look at the ring. If room was known before, it is sent. It takes no memory.
     pub fn push(&mut self, to: u8, item: T) -> Result<(), T>

@@ -56,14 +56,6 @@ impl Outboxes {
         true
     }
 
-    /// How many batches are to be sent. It tells whether they are worth threads; no clause speaks of it.
-    pub fn batches(&self) -> usize {
-        self.queues.iter().fold(
-            0,
-            |sum: usize, queue: &Queue| sum.saturating_add(queue.len()),
-        )
-    }
-
     /// A copy of the first batch that is to be sent to this owner, which has 1 to 32 notes. None if
     /// nothing is to be sent there, or `to` is not the number of another owner.
     pub fn front(&self, to: u8) -> Option<Batch>

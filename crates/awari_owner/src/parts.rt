@@ -185,12 +185,6 @@ impl Part {
         self.boards.boards_spread()
     }
 
-    /// How many fresh boards are of the open wave. It tells whether the wave is worth threads; no clause
-    /// speaks of it.
-    pub fn wave_boards(&self) -> usize {
-        self.boards.wave_boards()
-    }
-
     /// Opens the next smaller gain. The boards that an end or a capture settles at that gain are
     /// settled, and so become fresh. Conditions: the gain is at least 1, and no board is fresh. It
     /// takes no memory.

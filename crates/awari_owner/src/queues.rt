@@ -54,11 +54,6 @@ impl Queue {
         self.batches.is_empty()
     }
 
-    /// How many batches are in it.
-    pub fn len(&self) -> usize {
-        self.batches.len()
-    }
-
     /// A copy of the first batch.
     pub fn front(&self) -> Option<Batch>
         ensures some { IfSome result (λ batch. (rest : List (List NoteView)) × (self.now.batches ≡ batch.items ∷ rest)) }

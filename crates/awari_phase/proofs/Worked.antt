@@ -114,13 +114,6 @@ rounds os ps qs same worked well grid =
     let kept = well_kept os ps qs same worked well in
     record { kept = kept; swept = well_swept os ps qs same worked well; grid = worked_grid os ps worked grid; together = λ value n. together_kept value n os ps kept }
 
--- what a slice that worked writes back
-pub written_worked : (os now new : List Owner) (n : ℕ) → n ≡ length os → now ≡ os → HaveWorked now new → HaveWorked os (take n (new ++ drop (length new) os))
-written_worked os now new n count is worked =
-    let w = worked.many in
-    let same = ap length is in
-    subst (HaveWorked os) (sym (written new os n (omega (arith, w, same, count)) (sym count))) (subst (λ (l : List Owner). HaveWorked l new) is worked)
-
 -- what grew is sound together where it was, if what waits is of the open gain and wave
 together_grown : (value : List ℕ → ℤ) (n : ℕ) (os ps : List Owner) → AllGrown os ps
     → ((i j : ℕ) (d : Owner) → i < length ps → j < length ps → (i ≡ j → ⊥) → OpenBehind (get_or ps j d).part (received_from (get_or ps i d).ends j) (sent_to (get_or ps j d).ends i))

@@ -1,10 +1,9 @@
 //! Owners that work side by side until a gain is closed.
 //!
 //! [`scanned_owners`] makes them, [`open_gain`] opens the next gain in all parts, and [`gain_phase`]
-//! makes rounds until no board is fresh and nothing is on its way. [`round`] runs each owner in a thread
-//! of its own. Of a gain's rounds the first owner's thread is the caller's, or they are made one owner
-//! after the other on that thread. No contract says that rounds come to an end; each says what holds of
-//! owners that come back.
+//! makes rounds until no board is fresh and nothing is on its way. Each is a [`round`]: each owner moves
+//! into a thread of its own, and comes back by join. No contract says that rounds come to an end; each
+//! says what holds of owners that come back.
 //!
 //! One round in which each owner makes one sweep, in `crates/awari_owner_tests/src/rounds.rt`:
 //!

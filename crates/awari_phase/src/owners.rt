@@ -23,9 +23,6 @@ use awari_owner::{Batch, Outboxes, OwnerFault, Part, take_batch};
 /// The most boards that a sweep spreads.
 pub const MOST_SPREADS: u32 = 64;
 
-/// To hear the notes of a batch is as much work as to spread this many boards.
-const BOARDS_A_BATCH: usize = 4;
-
 /// One owner: its part of the level, its ends of the rings, and what it has still to send.
 #[derive(Drop)]
 pub struct Owner {
@@ -68,15 +65,6 @@ impl Owner {
             outboxes,
             fault: None,
         }
-    }
-
-    /// What it has to spread, to send and to take, as far as that is known, in boards to be spread. It
-    /// tells whether the work is worth threads; no clause speaks of it.
-    pub(crate) fn work_left(&self) -> usize {
-        let batches = self.outboxes.batches().saturating_add(self.ends.waiting());
-        batches
-            .saturating_mul(BOARDS_A_BATCH)
-            .saturating_add(self.part.wave_boards())
     }
 
     /// Takes at most one batch from another owner. True if there was one.

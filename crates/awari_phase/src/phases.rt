@@ -4,35 +4,28 @@ ghost use Rattle.std.specs.Prelude.{◌≡◌, ◌⊎◌, ◌≤◌, All, IsTrue
 ghost use Rattle.awari_lines.specs.Rings.{IsGrid};
 ghost use Rattle.awari_block.specs.Blocks.{due_dist};
 ghost use Rattle.awari_block.specs.Counts.{spread_in};
-ghost use Rattle.awari_phase.specs.Owners.{AllGrown, AreIdle, AreReceived, AreSent, ClosesGain, Rounds, StayTogether, all_ends, parts_of};
-ghost use Rattle.awari_phase.specs.PhaseFault.{IfTogether, IsPhaseRefusal, IsRefusal, IsStop, IsWant};
+ghost use Rattle.awari_phase.specs.Owners.{AllGrown, AreIdle, AreReceived, AreSent, ClosesGain, StayTogether, all_ends, parts_of};
+ghost use Rattle.awari_phase.specs.PhaseFault.{IfTogether, IsPhaseRefusal, IsStop, IsWant};
 ghost use Rattle.awari_phase.specs.declared.owners.Owner.{Owner as AnOwner};
 
 use crate::faults::PhaseFault;
 use crate::gates::Gate;
 use crate::openings::open_waves;
 use crate::owners::Owner;
-use crate::rounding::round_with;
+use crate::rounding::round;
 use crate::settling::settle_owners;
 use awari_block::nearer;
 use awari_heard::{Progress, Silent, Told};
 use std::sync::Wait;
 use std::thread::Threads;
 
-/// From how much work on, in boards to be spread, a round is made in threads.
-const MUCH_WORK: usize = 1000;
-
-/// How many sweeps an owner makes in a round in turn at most, before threads are thought of again.
-const SWEEPS_IN_TURN: u32 = 16;
-
 /// Makes rounds, one wave after another from the least on, until no board is fresh and
-/// nothing is to be sent or waits on a ring. An owner makes at most `sweeps` sweeps a round.
+/// nothing is to be sent or waits on a ring. In each of them each owner works in a thread of its own,
+/// for at most `sweeps` sweeps: see [`round`].
+///
 /// Conditions: `sweeps` is 1 to 1000, and the owners stand on one grid. It takes memory as a round
 /// does, and is refused as one is; then the owners are gone. If the owners were sound together, 42
 /// cannot occur.
-///
-/// The first round is made in threads, and each other one in threads or in turn: see
-/// `MUCH_WORK`. The first owner works on the caller's thread in either.
 pub fn gain_phase<R: Threads + Wait + Sync, G: Gate + Sync>(
     rt: &R,
     owners: Vec<Owner>,
@@ -63,7 +56,7 @@ pub fn gain_phase_with_progress<R: Threads + Wait + Sync, G: Gate + Sync, P: Pro
     ensures refused { IfErr result (λ fault. IsPhaseRefusal owners.items fault ⊎ IsStop P.stops fault) }
     ensures wanting { IfErr result (IfTogether owners.items (λ fault. IsWant fault ⊎ IsStop P.stops fault)) }
 {
-    let mut all = round_with(rt, owners, 1, gate, sweeps)?;
+    let mut all = round(rt, owners, gate, sweeps)?;
     for _ in rt.forever() {
         tell(progress, all.as_slice());
         if !progress.is_wanted() {
@@ -72,7 +65,7 @@ pub fn gain_phase_with_progress<R: Threads + Wait + Sync, G: Gate + Sync, P: Pro
         if !is_more(rt, all.as_mut_slice()) {
             return Ok(all);
         }
-        all = next_round(rt, all, gate, sweeps)?;
+        all = round(rt, all, gate, sweeps)?;
     }
     unreachable!()
 }
@@ -94,35 +87,6 @@ fn is_more<R: Threads + Sync>(rt: &R, owners: &mut [Owner]) -> bool
     };
     open_waves(rt, owners, dist);
     true
-}
-
-/// One round, in turn if little is to be done. Else it is made in threads, with the first owner on the
-/// caller's.
-fn next_round<R: Threads + Wait + Sync, G: Gate + Sync>(
-    rt: &R,
-    owners: Vec<Owner>,
-    gate: &G,
-    sweeps: u32,
-) -> Result<Vec<Owner>, PhaseFault>
-    requires sweeps { (1 ≤ sweeps) × (sweeps ≤ 1000) }
-    requires grid { IsGrid (all_ends owners.items) }
-    ensures rounds { IfOk result (λ all. Rounds owners.items all.items) }
-    ensures refused { IfErr result (IsRefusal owners.items) }
-    ensures wanting { IfErr result (IfTogether owners.items IsWant) }
-{
-    if work_left(owners.as_slice()) < MUCH_WORK {
-        let here = owners.len();
-        return round_with(rt, owners, here, gate, sweeps.min(SWEEPS_IN_TURN));
-    }
-    round_with(rt, owners, 1, gate, sweeps)
-}
-
-/// The work of all owners together, in boards.
-fn work_left(owners: &[Owner]) -> usize {
-    owners.iter().fold(
-        0,
-        |sum: usize, owner: &Owner| sum.saturating_add(owner.work_left()),
-    )
 }
 
 /// Tells which gain is open, and how many boards are settled, of all owners together.

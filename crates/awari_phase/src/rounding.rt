@@ -1,4 +1,4 @@
-//! Rounds: all owners work, each in a thread of its own, or one after the other.
+//! Rounds: all owners work, each in a thread of its own.
 
 ghost use Rattle.std.specs.Prelude.{◌≡◌, ◌≤◌, ℕ, ℤ, List, IsNone, IfOk, IfErr, IfSome};
 ghost use Rattle.awari_lines.specs.Rings.{IsGrid};
@@ -45,24 +45,7 @@ pub fn round<R: Threads + Wait + Sync, G: Gate + Sync>(
     ensures refused { IfErr result (IsRefusal owners.items) }
     ensures wanting { IfErr result (IfTogether owners.items IsWant) }
 {
-    round_with(rt, owners, 0, gate, sweeps)
-}
-
-/// The same round, with the first `here` owners on the caller's thread, one after the other.
-pub(crate) fn round_with<R: Threads + Wait + Sync, G: Gate + Sync>(
-    rt: &R,
-    owners: Vec<Owner>,
-    here: usize,
-    gate: &G,
-    sweeps: u32,
-) -> Result<Vec<Owner>, PhaseFault>
-    requires sweeps { (1 ≤ sweeps) × (sweeps ≤ 1000) }
-    requires grid { IsGrid (all_ends owners.items) }
-    ensures rounds { IfOk result (λ all. Rounds owners.items all.items) }
-    ensures refused { IfErr result (IsRefusal owners.items) }
-    ensures wanting { IfErr result (IfTogether owners.items IsWant) }
-{
-    let all = work_all(rt, owners, here, gate, sweeps)?;
+    let all = work_all(rt, owners, gate, sweeps)?;
     match first_fault(all.as_slice()) {
         None => Ok(all),
         Some(fault) => Err(refused(all, fault)),

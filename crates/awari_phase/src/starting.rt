@@ -1,5 +1,4 @@
-//! How owners work, each in a thread of its own or several on the caller's, and how a start that fails is
-//! reported.
+//! How owners work, each in a thread of its own, and how a start that fails is reported.
 
 ghost use Rattle.std.specs.Prelude.{◌≡◌, ◌≤◌, ◌<◌, IfOk, IfErr, vec_len, vec_capacity, ◌+◌, ◌++◌, ◌∷◌, [], Ok, Err};
 ghost use Rattle.std.specs.Result.{ForOk};
@@ -34,8 +33,7 @@ fn worked<G: Gate>(mut owner: Owner, gate: &G, sweeps: u32) -> Owner
     owner
 }
 
-/// The first `here` owners work on the caller's thread, one after the other, and each other one in a
-/// thread of its own.
+/// Each owner moves into a thread of its own, works there and comes back by join.
 ///
 /// It starts the last owner, then the others before it, and joins it whatever became of those. So all
 /// that were started are joined before a refusal is answered. It is refused as 40 `NotStarted` alone: if
@@ -45,7 +43,6 @@ fn worked<G: Gate>(mut owner: Owner, gate: &G, sweeps: u32) -> Owner
 pub(crate) fn work_all<R: Threads + Wait + Sync, G: Gate + Sync>(
     rt: &R,
     mut owners: Vec<Owner>,
-    here: usize,
     gate: &G,
     sweeps: u32,
 ) -> Result<Vec<Owner>, PhaseFault>
@@ -55,10 +52,6 @@ pub(crate) fn work_all<R: Threads + Wait + Sync, G: Gate + Sync>(
     ensures room { IfOk result (λ all. vec_capacity owners ≤ vec_capacity all) }
     ensures wanting { IfErr result (λ fault. fault ≡ PhaseFault.NotStarted) }
 {
-    if owners.len() <= here {
-        work_in_turn(owners.as_mut_slice(), gate, sweeps);
-        return Ok(owners);
-    }
     let Some(owner) = owners.pop() else {
         return Ok(owners);
     };
@@ -72,23 +65,13 @@ pub(crate) fn work_all<R: Threads + Wait + Sync, G: Gate + Sync>(
             let promise = KeptFrom(Snapshot::of(&owner));
             match scope.spawn_with(promise, move || worked(owner, gate, sweeps)) {
                 Ok(child) => {
-                    let others = work_all(rt, owners, here, gate, sweeps);
+                    let others = work_all(rt, owners, gate, sweeps);
                     with_last(others, child.join(rt))
                 }
                 Err(_) => Err(PhaseFault::NotStarted),
             }
         },
     )
-}
-
-/// Each owner works in its place in the list.
-fn work_in_turn<G: Gate>(owners: &mut [Owner], gate: &G, sweeps: u32)
-    requires { 1 ≤ sweeps }
-    ensures { HaveWorked owners.old owners.new }
-{
-    for i in 0..owners.len() {
-        owners[i].work(gate, sweeps);
-    }
 }
 
 /// The owners with one more at the end, for which their list has room.

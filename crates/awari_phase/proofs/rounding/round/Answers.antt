@@ -1,6 +1,6 @@
 use Rattle.std.proofs.Common.{refl}
 use Rattle.awari_phase.proofs.Worked.{rounds, worked_grid}
-use Rattle.awari_phase.proofs.rounding.round_with.Goals as goal
+use Rattle.awari_phase.proofs.rounding.round.Goals as goal
 
 pub refused-requires-clause-grid : goal.refused-requires-clause-grid
 refused-requires-clause-grid g c = worked_grid c.args.owners.items c.in_ok-all.all.items c.in_ok-all.ensures.worked c.requires.grid
