@@ -6,7 +6,6 @@ pub mod Hearing
 pub mod ScannedOwners
 pub mod Firsts
 pub mod Sending
-pub mod LookingAhead
 pub mod Telling
 pub mod Queueing
 pub mod Sharing

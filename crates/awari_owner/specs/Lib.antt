@@ -1,6 +1,6 @@
 pub mod PartFields
 pub mod Spread
-pub mod Lookahead
+pub mod Predecessors
 pub mod Leaving
 pub mod OwnerFault
 pub mod Sound

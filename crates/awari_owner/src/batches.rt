@@ -13,9 +13,7 @@ pub fn take_batch(part: &mut Part, batch: &Batch) -> Result<(), OwnerFault>
     ensures taken { OnOk result (TakesNotes batch.now.items part.old part.new) }
     ensures refused { IfErr result (RefusesNote batch.now.items part.old part.new) }
 {
-    let notes = batch.as_slice();
-    part.look_at(notes);
-    for note in notes {
+    for note in batch.as_slice() {
         part.take(*note)?;
     }
     Ok(())

@@ -27,7 +27,6 @@ mod batches;
 mod faults;
 mod laws;
 mod leaving;
-mod lookahead;
 mod outboxes;
 mod parts;
 mod queues;

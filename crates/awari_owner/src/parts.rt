@@ -18,10 +18,9 @@ ghost use Rattle.awari_owner.specs.declared.faults.OwnerFault.{OwnerFault};
 
 use crate::faults::OwnerFault;
 use crate::leaving::{leaving_pits, leaving_pits_parallel};
-use crate::lookahead::Lookahead;
 use crate::outboxes::Outboxes;
 use crate::queues::reserve_others;
-use crate::spreads::tell_all;
+use crate::spreads::{Predecessors, tell_all};
 use awari_block::{Block, Boards, Cell, ClosedPart, InOrder, Note, Pits, block_length};
 use awari_board::{SIDE, moves_keep_boards};
 use awari_index::Index;
@@ -33,13 +32,12 @@ use std::marker::Model;
 use std::thread::Threads;
 
 /// One owner's part of a level that is being built. It has what is known of each board of its block,
-/// and which boards are fresh, that is, settled and not spread yet. It has the boards that are spread
-/// next, with their predecessors. And for each board it has the pits whose quiet moves lead out of the
-/// block.
+/// and which boards are fresh, that is, settled and not spread yet. It has an index of the level, which
+/// gives the board of a rank. And for each board it has the pits whose quiet moves lead out of the block.
 #[derive(Drop)]
 pub struct Part {
     boards: Boards<InOrder>,
-    lookahead: Lookahead,
+    index: Index,
     leaving: Vec<Pits>,
 }
 
@@ -60,8 +58,8 @@ impl Part {
     /// and no gain is open. Conditions: there are 1 to 16 owners, `owner` is below `owners`, and the
     /// shelf has at most `HIGHEST_LEVEL` levels. Refused as 33 `Memory` if memory runs out.
     ///
-    /// It takes all the memory that the part will ever need: less than eleven bytes a board, an index
-    /// of the level, and 38 kilobytes for the predecessors of the boards that are spread next.
+    /// It takes all the memory that the part will ever need: less than eleven bytes a board, and an
+    /// index of the level.
     pub fn scan(alloc: Global, shelf: &Shelf, owners: u8, owner: u8) -> Result<Part, OwnerFault>
         requires owners { (1 ≤ owners) × (owners ≤ 16) }
         requires owner { owner < owners }
@@ -76,7 +74,7 @@ impl Part {
         let cells = scanned_cells(alloc, shelf, &index, block.start, block.end)?;
         let boards = scanned_boards(alloc, shelf, block.start, cells)?;
         let leaving = leaving_pits(alloc, &boards, &index)?;
-        Part::from_boards(alloc, boards, index, leaving)
+        Ok(Part::from_boards(boards, index, leaving))
     }
 
     /// Answers what [`Part::scan`] does, with the block shared among as many threads as there are
@@ -102,7 +100,7 @@ impl Part {
         let cells = scanned_cells_parallel(rt, alloc, shelf, &index, block)?;
         let boards = scanned_boards(alloc, shelf, block.start, cells)?;
         let leaving = leaving_pits_parallel(rt, alloc, &boards, &index)?;
-        Part::from_boards(alloc, boards, index, leaving)
+        Ok(Part::from_boards(boards, index, leaving))
     }
 
     /// Value in stones and distance in plies of the board of this rank, none if it is not settled.
@@ -233,14 +231,6 @@ impl Part {
         Ok(())
     }
 
-    /// Reads what is known of the boards that these notes are for. Nothing changes, but the notes are
-    /// heard sooner.
-    pub(crate) fn look_at(&mut self, notes: &[Note])
-        ensures { self.new ≡ self.old }
-    {
-        self.lookahead.look_at(&self.boards, &self.leaving, notes);
-    }
-
     /// Spreads the first fresh board, which has the least distance and among those the least rank, if
     /// its distance is the open one. Its quiet predecessors hear of it, and it is fresh no longer.
     /// False if no board is fresh, or the first one has a greater distance.
@@ -276,13 +266,12 @@ impl Part {
         ranks_tell_boards_apart();
         let span = block_length(size(stake.level), outboxes.queues.len() as u8);
         let rank = self.boards.take_first();
-        let place = self.lookahead.place_of(&self.boards, rank);
+        let predecessors = Predecessors::of(self.boards.board(&self.index, rank));
         let kind = self.boards.cell(rank).kind();
-        let predecessors = &self.lookahead.boards[place];
         tell_all(
             &mut self.boards,
             &mut outboxes.queues,
-            predecessors,
+            &predecessors,
             span,
             kind,
         );
@@ -299,24 +288,17 @@ impl Part {
     }
 
     /// The part of these boards, with the pits of the moves that leave them.
-    fn from_boards(
-        alloc: Global,
-        boards: Boards<InOrder>,
-        index: Index,
-        leaving: Vec<Pits>,
-    ) -> Result<Part, OwnerFault>
+    fn from_boards(boards: Boards<InOrder>, index: Index, leaving: Vec<Pits>) -> Part
         requires index { index ≡ boards.level }
         requires fresh { AreFresh boards }
         requires leaving { AreLeaving boards leaving.items }
-        ensures same { IfOk result (λ part. part ≡ boards) }
-        ensures memory { IfErr result (λ fault. fault ≡ OwnerFault.Memory) }
+        ensures { result ≡ boards }
     {
-        let lookahead = Lookahead::new(alloc, boards.stake().level, index)?;
-        Ok(Part {
+        Part {
             boards,
-            lookahead,
+            index,
             leaving,
-        })
+        }
     }
 
     /// Whether the note is one that other owners may send now.

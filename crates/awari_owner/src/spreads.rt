@@ -1,20 +1,50 @@
-//! How the predecessors of a board that is spread hear of it. Those in the block hear at once, the
-//! others by notes that go to their owners' queues.
+//! The predecessors of a board that is spread, and how they hear of it. Those in the block hear at once,
+//! the others by notes that go to their owners' queues.
 
-ghost use Rattle.std.specs.Prelude.{◌%◌, ◌≡◌, ℕ, ◌+◌, ◌<◌, ◌≤◌, ◌/◌, ◌∷◌, [], vec_len, false};
+ghost use Rattle.std.specs.Prelude.{◌%◌, ◌≡◌, ℕ, ◌+◌, ◌<◌, ◌≤◌, ◌/◌, ◌∷◌, [], sum, vec_len, false};
+ghost use Rattle.awari_board.specs.Rules.{IsBoard};
 ghost use Rattle.awari_rank.specs.Rank.{size_of};
 ghost use Rattle.awari_owner.specs.Queues.{queue_in, room_in};
 ghost use Rattle.awari_block.specs.Boards.{CanTell, Settles, stake_of};
-ghost use Rattle.awari_owner.specs.Lookahead.{ArePredecessors};
+ghost use Rattle.awari_owner.specs.Predecessors.{ArePredecessors};
 ghost use Rattle.awari_scan.specs.Found.{IsCodeOf, Source};
 ghost use Rattle.awari_heard.specs.Heard.{HearsNotes};
 ghost use Rattle.awari_owner.specs.Spread.{is_held, own_notes, TellsAll, with_sent};
 
-use crate::lookahead::Predecessors;
 use crate::queues::Queue;
 use awari_block::{Boards, InOrder, Kind};
 use awari_board::moves_keep_boards;
+use awari_packed::PackedBoard;
 use awari_rank::ranks_tell_boards_apart;
+use awari_scan::{MOST_PREDECESSORS, find_all};
+
+/// The predecessors of a board.
+#[derive(Drop)]
+pub struct Predecessors {
+    pub board: PackedBoard,
+    /// How many there are.
+    pub count: usize,
+    /// They are the first of these, each as `find_all` has it.
+    pub targets: [u32; MOST_PREDECESSORS],
+}
+
+impl Predecessors {
+    /// Those of this board. It takes no memory.
+    pub fn of(board: PackedBoard) -> Predecessors
+        requires board { IsBoard board }
+        requires low { sum board ≤ 24 }
+        ensures same { result.board ≡ board }
+        ensures found { ArePredecessors (sum board) result }
+    {
+        let mut targets = [0; MOST_PREDECESSORS];
+        let count = find_all(&board, &mut targets[..]);
+        Predecessors {
+            board,
+            count,
+            targets,
+        }
+    }
+}
 
 /// Tells the predecessors of a board that it is won or lost. A block has `span` boards.
 pub fn tell_all(

@@ -1,10 +1,10 @@
-use Rattle.std.proofs.Common.{◌≡◌, ◌+◌, ◌-◌, ◌/◌, ◌^◌, ◌<◌, ◌≤◌, ◌∙◌, ℕ, false, Some, length, refl, ap, subst, subst₂, sym, rules, arith}
+use Rattle.std.proofs.Common.{◌≡◌, ◌+◌, ◌-◌, ◌/◌, ◌^◌, ◌<◌, ◌≤◌, ◌∙◌, ℕ, false, Some, length, refl, ap, subst, subst₂, sum, sym, rules, arith}
 use Rattle.std.proofs.lemmas.Grind.{common_steps}
 use Rattle.std.proofs.lemmas.Result.{err_from_is_err_and}
-use Rattle.awari_rank.specs.Rank.{size_of}
+use Rattle.awari_board.specs.Rules.{IsBoard}
+use Rattle.awari_rank.specs.Rank.{rank_of, size_of}
 use Rattle.awari_block.specs.Boards.{TakesFirst, stake_of}
 use Rattle.awari_block.specs.Part.{Part, IsLeastDue}
-use Rattle.awari_owner.specs.Lookahead.{IsAhead}
 use Rattle.awari_owner.specs.Spread.{Spreads, PutsAll, IsPartOf, is_held}
 use Rattle.awari_owner.specs.Outboxes.{Outboxes}
 use Rattle.awari_owner.specs.Sound.{SameStake, SpreadsFirst}
@@ -12,7 +12,7 @@ use Rattle.awari_owner.specs.Queues.{batches_of, room_in}
 use Rattle.awari_block.specs.declared.stakes.Stake.{Stake}
 use Rattle.awari_owner.proofs.Firsts.{fewer_unspread, spread_first, taken_low, taken_place, taken_settles, IsTold}
 use Rattle.awari_owner.proofs.Giving.{sound_spread}
-use Rattle.awari_owner.proofs.LookingAhead.{ahead_at}
+use Rattle.awari_owner.specs.Predecessors.{ArePredecessors}
 use Rattle.awari_owner.proofs.Sending.{batches_length, all_batches}
 use Rattle.awari_owner.proofs.Sharing.{outboxes_of, own_stays, room_for, sends_by}
 use Rattle.awari_owner.proofs.Spreading.{sources_of}
@@ -30,15 +30,13 @@ due_now : (old part : Part) (stake : Stake) (dist : ℕ) → stake ≡ stake_of 
 due_now old part stake dist at near view due =
     subst (λ (o : Part). IsLeastDue o (Some o.wave)) view (subst (λ d. IsLeastDue old (Some d)) (near ∙ ap (λ (p : Stake). p.wave) at) due)
 
-pub place_of-place-requires-clause-ahead : goal.place_of-place-requires-clause-ahead
-place_of-place-requires-clause-ahead c =
+pub board-requires-clause-index : goal.board-requires-clause-index
+board-requires-clause-index c =
     let takes : TakesFirst c.self.inside.boards c.take_first-rank.new.self c.take_first-rank.result = c.take_first-rank.ensures.first in
-    subst (λ (t : Part). IsAhead t.level c.self.inside.lookahead) (sym takes.rest) c.self.invariant.ahead
+    c.self.invariant.index ∙ sym (ap (λ (t : Part). t.level) takes.rest)
 
 pub tell_all-requires-clause-found : goal.tell_all-requires-clause-found
-tell_all-requires-clause-found c =
-    let first = ahead_at _ _ _ _ c.index-predecessors.result.now c.place_of-place.ensures.ahead c.place_of-place.ensures.place c.index-predecessors.ensures in
-    first.0
+tell_all-requires-clause-found c = subst (λ n. ArePredecessors n c.of-predecessors.result) c.board.ensures.stones c.of-predecessors.ensures.found
 
 pub tell_all-requires-clause-can : goal.tell_all-requires-clause-can
 tell_all-requires-clause-can c =
@@ -70,7 +68,7 @@ invariant_of-self c =
     record {
       opened = (let now = settles.same.gain in let was = c.self.invariant.opened in omega (arith, now, was));
       fresh = c.tell_all.ensures.settles.fresh c.take_first-rank.ensures.fresh;
-      ahead = subst (λ n. IsAhead n c.place_of-place.new.self) (sym c.tell_all.ensures.settles.same.level) c.place_of-place.ensures.ahead;
+      index = c.self.invariant.index ∙ sym settles.same.level;
       leaving = leaving_still c.self.inside.boards c.tell_all.new.boards c.self.inside.leaving.items settles.same.level settles.same.start settles.size c.self.invariant.leaving;
     }
 
@@ -82,9 +80,8 @@ invariant_of-outboxes-2 c =
     let told = c.tell_all.ensures in
     let puts : PutsAll old c.block_length-span.result c.kind-kind.result c.reserve_others.new.queues.items c.tell_all.new.queues.items told.sources =
     subst (λ (t : Part). PutsAll t c.block_length-span.result c.kind-kind.result c.reserve_others.new.queues.items c.tell_all.new.queues.items told.sources) takes.rest told.puts in
-    let are = sources_of c.index-predecessors.result.now.board told.sources (λ p x is move. c.moves_keep_boards.ensures.stones p c.index-predecessors.result.now.board x 0 is move) told.predecessors in
-    let first = ahead_at _ _ _ _ c.index-predecessors.result.now c.place_of-place.ensures.ahead c.place_of-place.ensures.place c.index-predecessors.ensures in
-    let stones = first.0.stones ∙ ap (λ (t : Part). t.level) takes.rest in
+    let are = sources_of c.of-predecessors.result.board told.sources (λ p x is move. c.moves_keep_boards.ensures.stones p c.of-predecessors.result.board x 0 is move) told.predecessors in
+    let stones = ap sum c.of-predecessors.ensures.same ∙ c.board.ensures.stones ∙ ap (λ (t : Part). t.level) takes.rest in
     let many : 0 < size_of old.level = subst (λ (p : Stake). 0 < size_of p.level) c.stake-stake.ensures.stake (subst (λ n. 0 < n) c.size.ensures.boards c.size.ensures.some) in
     let spans = span_is old c.stake-stake.result c.size.result c.len.result (length c.outboxes.inside.queues.items) c.block_length-span.result c.stake-stake.ensures.stake c.size.ensures.boards (search rules) c.block_length-span.ensures in
     let after : length c.tell_all.new.queues.items ≡ length c.outboxes.inside.queues.items = search rules in
@@ -94,7 +91,7 @@ invariant_of-outboxes-2 c =
       few = omega (arith, many', c.outboxes.invariant.few);
       one = omega (arith, many', c.outboxes.invariant.one);
       own =
-          own_stays old c.index-predecessors.result.now.board told.sources c.kind-kind.result c.block_length-span.result c.outboxes.inside.owner c.outboxes.inside.queues.items c.reserve_others.new.queues.items c.tell_all.new.queues.items
+          own_stays old c.of-predecessors.result.board told.sources c.kind-kind.result c.block_length-span.result c.outboxes.inside.owner c.outboxes.inside.queues.items c.reserve_others.new.queues.items c.tell_all.new.queues.items
           are stones made many spans c.in_ok-reserve_others.ensures.same puts ∙ c.outboxes.invariant.own;
       batches = all_batches old c.block_length-span.result c.kind-kind.result told.sources c.outboxes.inside.queues.items c.reserve_others.new.queues.items c.tell_all.new.queues.items after c.in_ok-reserve_others.ensures.same puts
           c.outboxes.invariant.batches;
@@ -110,21 +107,21 @@ returns-clause-spread c = λ _.
     subst (λ (t : Part). PutsAll t c.block_length-span.result c.kind-kind.result c.reserve_others.new.queues.items c.tell_all.new.queues.items told.sources) takes.rest told.puts in
     let level = ap (λ (p : Stake). p.level) c.stake-stake.ensures.stake in
     let wave = ap (λ (p : Stake). p.wave) c.stake-stake.ensures.stake in
-    let first = ahead_at _ _ _ _ c.index-predecessors.result.now c.place_of-place.ensures.ahead c.place_of-place.ensures.place c.index-predecessors.ensures in
-    let both : Spreads old c.tell_all.new.boards c.index-predecessors.result.now.board told.sources × IsTold old c.index-predecessors.result.now.board told.sources c.kind-kind.result =
-    spread_first old c.take_first-rank.new.self c.tell_all.new.boards c.take_first-rank.result takes c.tell_all.ensures.settles c.cell.result c.index-predecessors.result.now.board told.sources c.kind-kind.result
+    let both : Spreads old c.tell_all.new.boards c.of-predecessors.result.board told.sources × IsTold old c.of-predecessors.result.board told.sources c.kind-kind.result =
+    spread_first old c.take_first-rank.new.self c.tell_all.new.boards c.take_first-rank.result takes c.tell_all.ensures.settles c.cell.result c.of-predecessors.result.board told.sources c.kind-kind.result
     c.ranks_tell_boards_apart.ensures
     (λ p x r is move. c.moves_keep_boards.ensures.board p r x 0 is move)
     (λ p x r is move. c.moves_keep_boards.ensures.stones p r x 0 is move)
-    (let far = c.if-dist.false in let at = c.if-dist-stake.false in search (rules, wave)) c.self.invariant.opened first.0.board (first.0.stones ∙ ap (λ (t : Part). t.level) takes.rest) (first.0.rank ∙ first.1)
+    (let far = c.if-dist.false in let at = c.if-dist-stake.false in search (rules, wave)) c.self.invariant.opened
+    (subst IsBoard (sym c.of-predecessors.ensures.same) c.board.ensures.board) (ap sum c.of-predecessors.ensures.same ∙ c.board.ensures.stones ∙ ap (λ (t : Part). t.level) takes.rest) (ap rank_of c.of-predecessors.ensures.same ∙ c.board.ensures.rank)
     c.cell.ensures.stored c.kind-kind.ensures told.predecessors told.hears in
     let many : 0 < size_of old.level = subst (λ (p : Stake). 0 < size_of p.level) c.stake-stake.ensures.stake (subst (λ n. 0 < n) c.size.ensures.boards c.size.ensures.some) in
     let spans = span_is old c.stake-stake.result c.size.result c.len.result (length c.outboxes.inside.queues.items) c.block_length-span.result c.stake-stake.ensures.stake c.size.ensures.boards (search rules) c.block_length-span.ensures in
     let after : length c.tell_all.new.queues.items ≡ length c.outboxes.inside.queues.items = search rules in
-    let sends = sends_by old c.index-predecessors.result.now.board told.sources c.kind-kind.result c.block_length-span.result c.outboxes.inside.owner c.outboxes.inside.queues.items c.reserve_others.new.queues.items c.tell_all.new.queues.items
+    let sends = sends_by old c.of-predecessors.result.board told.sources c.kind-kind.result c.block_length-span.result c.outboxes.inside.owner c.outboxes.inside.queues.items c.reserve_others.new.queues.items c.tell_all.new.queues.items
     c.self.invariant.opened both.1 made many spans after c.in_ok-reserve_others.ensures.same puts in
     let does : SpreadsFirst old c.tell_all.new.boards (outboxes_of c.outboxes.inside.owner c.outboxes.inside.queues.items) (outboxes_of c.outboxes.inside.owner c.tell_all.new.queues.items) = record {
-      board = c.index-predecessors.result.now.board;
+      board = c.of-predecessors.result.board;
       sources = told.sources;
       notes = _;
       spreads = both.0;
@@ -134,7 +131,7 @@ returns-clause-spread c = λ _.
       sound = λ value taken sent coming.
           sound_spread c.ranks_tell_boards_apart.ensures
           (λ p x r is move. (c.moves_keep_boards.ensures.board p r x 0 is move, (let kept = c.moves_keep_boards.ensures.stones p r x 0 is move in omega (arith, kept))))
-          value old c.tell_all.new.boards _ _ taken sent coming c.index-predecessors.result.now.board told.sources _ both.0 sends (taken_place old c.take_first-rank.new.self c.tell_all.new.boards c.take_first-rank.result takes c.tell_all.ensures.settles) (c.tell_all.ensures.settles.fresh c.take_first-rank.ensures.fresh);
+          value old c.tell_all.new.boards _ _ taken sent coming c.of-predecessors.result.board told.sources _ both.0 sends (taken_place old c.take_first-rank.new.self c.tell_all.new.boards c.take_first-rank.result takes c.tell_all.ensures.settles) (c.tell_all.ensures.settles.fresh c.take_first-rank.ensures.fresh);
     } in
     subst₂ (λ (o : Part) (b : Outboxes). SpreadsFirst o c.tell_all.new.boards b (outboxes_of c.outboxes.inside.owner c.tell_all.new.queues.items)) c.self.view_is c.outboxes.view_is does
 

@@ -6,7 +6,6 @@ use Rattle.awari_owner.specs.Sound.{TakesNote}
 use Rattle.awari_block.specs.declared.cells.Cell.{Cell}
 use Rattle.awari_owner.proofs.Hearing.{hears_kept}
 use Rattle.awari_heard.proofs.Taking.{added_heard, expected_takeable}
-use Rattle.awari_owner.specs.Lookahead.{IsAhead}
 use Rattle.awari_owner.proofs.LeavingMoves.{leaving_still}
 use Rattle.awari_owner.proofs.parts.Part.take.Goals as goal
 
@@ -16,7 +15,7 @@ invariant_of-self c =
     record {
       opened = (let now = settles.same.gain in let was = c.self.invariant.opened in omega (arith, now, was));
       fresh = settles.fresh c.self.invariant.fresh;
-      ahead = subst (λ n. IsAhead n c.self.inside.lookahead) (sym settles.same.level) c.self.invariant.ahead;
+      index = c.self.invariant.index ∙ sym settles.same.level;
       leaving = leaving_still c.self.inside.boards c.hear.new.self c.self.inside.leaving.items settles.same.level settles.same.start settles.size c.self.invariant.leaving;
     }
 
