@@ -1,5 +1,4 @@
 pub mod Lists
-pub mod LeavingMoves
 pub mod SpreadNotes
 pub mod Spreading
 pub mod Hearing

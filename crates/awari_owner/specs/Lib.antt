@@ -1,7 +1,6 @@
 pub mod PartFields
 pub mod Spread
 pub mod Predecessors
-pub mod Leaving
 pub mod OwnerFault
 pub mod Sound
 pub mod Owners

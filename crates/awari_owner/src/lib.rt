@@ -26,7 +26,6 @@
 mod batches;
 mod faults;
 mod laws;
-mod leaving;
 mod outboxes;
 mod parts;
 mod queues;

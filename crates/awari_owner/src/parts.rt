@@ -7,7 +7,6 @@ ghost use Rattle.awari_block.specs.Blocks.{due_dist};
 ghost use Rattle.awari_block.specs.Counts.{spread_of};
 ghost use Rattle.awari_block.specs.Part.{Part as PartView, InBlock, Leaves, IsExpected, stored_at, settled_at, IsLeastDue, AreFresh, IsClosed};
 ghost use Rattle.awari_owner.specs.OwnerFault.{IsFaultOf};
-ghost use Rattle.awari_owner.specs.Leaving.{AreLeaving};
 ghost use Rattle.awari_scan.specs.Scan.{AreScanned, IsScannedPart};
 ghost use Rattle.awari_heard.specs.Level.{IsWhole};
 ghost use Rattle.awari_owner.specs.Sound.{CanTake, IsScannedOwner, IsSpreadFault, OpensGain, OpensWave, SameStake, SpreadsFirst, TakesNote};
@@ -17,11 +16,10 @@ ghost use Rattle.awari_table.specs.declared.TheConstants.{HIGHEST_LEVEL};
 ghost use Rattle.awari_owner.specs.declared.faults.OwnerFault.{OwnerFault};
 
 use crate::faults::OwnerFault;
-use crate::leaving::{leaving_pits, leaving_pits_parallel};
 use crate::outboxes::Outboxes;
 use crate::queues::reserve_others;
 use crate::spreads::{Predecessors, tell_all};
-use awari_block::{Block, Boards, Cell, ClosedPart, InOrder, Note, Pits, block_length};
+use awari_block::{Block, Boards, Cell, ClosedPart, InOrder, Note, block_length};
 use awari_board::{SIDE, moves_keep_boards};
 use awari_index::Index;
 use awari_rank::{ranks_tell_boards_apart, size};
@@ -32,13 +30,12 @@ use std::marker::Model;
 use std::thread::Threads;
 
 /// One owner's part of a level that is being built. It has what is known of each board of its block,
-/// and which boards are fresh, that is, settled and not spread yet. It has an index of the level, which
-/// gives the board of a rank. And for each board it has the pits whose quiet moves lead out of the block.
+/// and which boards are fresh, that is, settled and not spread yet. And it has an index of the level,
+/// which gives the board of a rank.
 #[derive(Drop)]
 pub struct Part {
     boards: Boards<InOrder>,
     index: Index,
-    leaving: Vec<Pits>,
 }
 
 impl Model for Part {
@@ -58,8 +55,8 @@ impl Part {
     /// and no gain is open. Conditions: there are 1 to 16 owners, `owner` is below `owners`, and the
     /// shelf has at most `HIGHEST_LEVEL` levels. Refused as 33 `Memory` if memory runs out.
     ///
-    /// It takes all the memory that the part will ever need: less than eleven bytes a board, and an
-    /// index of the level.
+    /// It takes all the memory that the part will ever need: less than ten bytes a board, and an index
+    /// of the level.
     pub fn scan(alloc: Global, shelf: &Shelf, owners: u8, owner: u8) -> Result<Part, OwnerFault>
         requires owners { (1 ≤ owners) × (owners ≤ 16) }
         requires owner { owner < owners }
@@ -72,9 +69,8 @@ impl Part {
         let block = Block::of(level, owners, owner);
         let index = Index::of(alloc, level)?;
         let cells = scanned_cells(alloc, shelf, &index, block.start, block.end)?;
-        let boards = scanned_boards(alloc, shelf, block.start, cells)?;
-        let leaving = leaving_pits(alloc, &boards, &index)?;
-        Ok(Part::from_boards(boards, index, leaving))
+        let part = scanned_part(alloc, shelf, index, block.start, cells)?;
+        Ok(part)
     }
 
     /// Answers what [`Part::scan`] does, with the block shared among as many threads as there are
@@ -98,9 +94,8 @@ impl Part {
         let block = Block::of(level, owners, owner);
         let index = Index::of(alloc, level)?;
         let cells = scanned_cells_parallel(rt, alloc, shelf, &index, block)?;
-        let boards = scanned_boards(alloc, shelf, block.start, cells)?;
-        let leaving = leaving_pits_parallel(rt, alloc, &boards, &index)?;
-        Ok(Part::from_boards(boards, index, leaving))
+        let part = scanned_part(alloc, shelf, index, block.start, cells)?;
+        Ok(part)
     }
 
     /// Value in stones and distance in plies of the board of this rank, none if it is not settled.
@@ -287,20 +282,6 @@ impl Part {
         self.boards.close()
     }
 
-    /// The part of these boards, with the pits of the moves that leave them.
-    fn from_boards(boards: Boards<InOrder>, index: Index, leaving: Vec<Pits>) -> Part
-        requires index { index ≡ boards.level }
-        requires fresh { AreFresh boards }
-        requires leaving { AreLeaving boards leaving.items }
-        ensures { result ≡ boards }
-    {
-        Part {
-            boards,
-            index,
-            leaving,
-        }
-    }
-
     /// Whether the note is one that other owners may send now.
     fn expects(&self, note: &Note) -> bool
         ensures { IsTrue result ↔ IsExpected self.now note.now }
@@ -322,24 +303,32 @@ impl Part {
         requires own { pit < 6 }
         ensures { IsTrue result ↔ Leaves self.now target pit }
     {
-        let (start, _) = self.boards.block();
-        self.leaving[(target - start) as usize].has(pit)
+        ranks_tell_boards_apart();
+        let board = self.boards.board(&self.index, target);
+        if !board.legal(pit) {
+            return false;
+        }
+        let moved = board.play(pit);
+        moved.captured == 0 && !self.boards.holds(moved.board.rank())
     }
 }
 
-/// The boards of the shelf's next level from rank `start` on that have these cells. They heard no note.
-fn scanned_boards(
+/// The boards of the shelf's next level from rank `start` on that have these cells, with the index of that
+/// level. They heard no note.
+fn scanned_part(
     alloc: Global,
     shelf: &Shelf,
+    index: Index,
     start: u32,
     cells: Vec<Cell>,
-) -> Result<Boards<InOrder>, AllocError>
+) -> Result<Part, AllocError>
     requires low { length shelf.now ≤ HIGHEST_LEVEL }
+    requires index { index ≡ length shelf.now }
     requires short { start + vec_len cells < 2 ^ 32 }
     requires within { start + vec_len cells ≤ size_of (length shelf.now) }
     requires scanned { AreScanned (table_of shelf.now).value (length shelf.now) start (start + vec_len cells) cells.items }
-    ensures scanned { IfOk result (IsScannedPart (table_of shelf.now).value (length shelf.now) start (start + vec_len cells)) }
-    ensures fresh { IfOk result AreFresh }
+    ensures { IfOk result (λ part. IsScannedPart (table_of shelf.now).value (length shelf.now) start (start + vec_len cells) part × AreFresh part) }
 {
-    Boards::unopened(alloc, shelf.levels(), start, cells)
+    let boards = Boards::unopened(alloc, shelf.levels(), start, cells)?;
+    Ok(Part { boards, index })
 }

@@ -5,7 +5,6 @@ use Rattle.awari_owner.specs.Sound.{OpensGain}
 use Rattle.awari_heard.proofs.Gains.{opened}
 use Rattle.awari_owner.proofs.Hearing.{hears_still}
 use Rattle.awari_block.proofs.Settling.{same_stake}
-use Rattle.awari_owner.proofs.LeavingMoves.{leaving_still}
 use Rattle.awari_owner.proofs.parts.Part.open_gain.Goals as goal
 
 pub invariant_of-self : goal.invariant_of-self
@@ -15,7 +14,6 @@ invariant_of-self c =
       opened = (let now = settles.same.gain in omega (arith, now, c.requires.positive));
       fresh = c.in-Ok.ensures.fresh;
       index = c.self.invariant.index ∙ sym settles.same.level;
-      leaving = leaving_still c.self.inside.boards c.open_gain.new.self c.self.inside.leaving.items settles.same.level settles.same.start settles.size c.self.invariant.leaving;
     }
 
 pub returns : goal.returns

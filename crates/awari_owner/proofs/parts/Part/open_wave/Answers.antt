@@ -1,11 +1,9 @@
-use Rattle.std.proofs.Common.{◌≡◌, ◌≤◌, ◌<◌, List, ℤ, ℕ, arith, refl, ap, sym, subst, ◌∙◌}
+use Rattle.std.proofs.Common.{◌≡◌, ◌≤◌, ◌<◌, List, ℤ, ℕ, arith, ap, sym, subst, ◌∙◌}
 use Rattle.awari_block.specs.Part.{Part, IsTallied, cell_at, notes_for}
 use Rattle.awari_block.specs.declared.notes.Note.{Note}
 use Rattle.awari_rank.specs.Rank.{rank_of}
 use Rattle.awari_heard.proofs.PlannedTallies.{wave_tally}
 use Rattle.awari_heard.specs.Heard.{HearsOwn}
-use Rattle.awari_owner.specs.Leaving.{AreLeaving}
-use Rattle.awari_owner.proofs.LeavingMoves.{leaving_still}
 use Rattle.awari_owner.proofs.parts.Part.open_wave.Goals as goal
 
 pub invariant_of-self : goal.invariant_of-self
@@ -14,7 +12,6 @@ invariant_of-self c =
       opened = subst (λ (o : Part). 1 ≤ o.gain) (sym c.open_wave.ensures.wave) c.self.invariant.opened;
       fresh = c.open_wave.ensures.fresh;
       index = subst (λ (o : Part). c.self.inside.index ≡ o.level) (sym c.open_wave.ensures.wave) c.self.invariant.index;
-      leaving = subst (λ (o : Part). AreLeaving o c.self.inside.leaving.items) (sym c.open_wave.ensures.wave) (leaving_still c.self.inside.boards (record c.self.inside.boards { wave = c.args.dist }) c.self.inside.leaving.items refl refl refl c.self.invariant.leaving);
     }
 
 waved : (value : List ℕ → ℤ) (notes : List Note) (old : Part) (dist : ℕ) → old.wave < dist → IsTallied value old notes → IsTallied value (record old { wave = dist }) notes

@@ -16,7 +16,6 @@ use Rattle.awari_owner.specs.Predecessors.{ArePredecessors}
 use Rattle.awari_owner.proofs.Sending.{batches_length, all_batches}
 use Rattle.awari_owner.proofs.Sharing.{outboxes_of, own_stays, room_for, sends_by}
 use Rattle.awari_owner.proofs.Spreading.{sources_of}
-use Rattle.awari_owner.proofs.LeavingMoves.{leaving_still}
 use Rattle.awari_owner.proofs.parts.Part.spread_one.Goals as goal
 
 -- the length of a block, by the level where the boards stand
@@ -69,7 +68,6 @@ invariant_of-self c =
       opened = (let now = settles.same.gain in let was = c.self.invariant.opened in omega (arith, now, was));
       fresh = c.tell_all.ensures.settles.fresh c.take_first-rank.ensures.fresh;
       index = c.self.invariant.index ∙ sym settles.same.level;
-      leaving = leaving_still c.self.inside.boards c.tell_all.new.boards c.self.inside.leaving.items settles.same.level settles.same.start settles.size c.self.invariant.leaving;
     }
 
 pub invariant_of-outboxes-2 : goal.invariant_of-outboxes-2

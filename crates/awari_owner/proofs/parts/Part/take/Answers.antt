@@ -6,7 +6,6 @@ use Rattle.awari_owner.specs.Sound.{TakesNote}
 use Rattle.awari_block.specs.declared.cells.Cell.{Cell}
 use Rattle.awari_owner.proofs.Hearing.{hears_kept}
 use Rattle.awari_heard.proofs.Taking.{added_heard, expected_takeable}
-use Rattle.awari_owner.proofs.LeavingMoves.{leaving_still}
 use Rattle.awari_owner.proofs.parts.Part.take.Goals as goal
 
 pub invariant_of-self : goal.invariant_of-self
@@ -16,7 +15,6 @@ invariant_of-self c =
       opened = (let now = settles.same.gain in let was = c.self.invariant.opened in omega (arith, now, was));
       fresh = settles.fresh c.self.invariant.fresh;
       index = c.self.invariant.index ∙ sym settles.same.level;
-      leaving = leaving_still c.self.inside.boards c.hear.new.self c.self.inside.leaving.items settles.same.level settles.same.start settles.size c.self.invariant.leaving;
     }
 
 pub returns-clause-taken : goal.returns-clause-taken
