@@ -2,21 +2,19 @@
 use Rattle.std.proofs.Common.{◌≡◌, ◌≢◌, ℕ, ◌+◌, ◌-◌, ◌<◌, ◌≤◌, ◌==◌, ◌⊎◌, ◌&&◌, not, eqb-true, IsTrue, Option, Some, None, ℤ, ◌↔◌, inl, inr, Bool, true, false, List, [], ◌∷◌, map, filter, length, set, All, refl, sym, ap, subst, ◌∙◌, arith, get_or-set_same, get_or-set_other, length-set}
 use Rattle.std.specs.List.{range_with_len}
 use Rattle.std.specs.List.Sorted.{IsPermutation}
-use Rattle.std.proofs.lemmas.Bool.{cases_lt}
 use Rattle.std.proofs.lemmas.Bool.Decides.{nat_tests}
 use Rattle.std.proofs.lemmas.List.{length-map}
 use Rattle.std.specs.List.{Any}
 use Rattle.std.proofs.lemmas.List.Sorted.{length_permutation, list_any-IsPermutation, All-permutation, IsPermutation-map, IsPermutation-sym}
 use Rattle.std.proofs.lemmas.List.Folds.{Any-from_list_any, list_any-from_Any}
 use Rattle.std.specs.Prelude.{IfSome}
-use Rattle.awari_block.specs.Boards.{IsNextOfWave}
 use Rattle.awari_block.specs.Part.{Part, InBlock, IsLeastDue, part_of, settled_at}
 use Rattle.awari_block.specs.declared.cells.Cell.{Cell}
 use Rattle.awari_block.specs.declared.fresh.InOrder.{InOrder}
 use Rattle.awari_block.specs.declared.stakes.Stake.{Stake}
 use Rattle.awari_block.specs.FreshSets.{CanOpenAt, KeepFresh}
 use Rattle.awari_block.specs.Blocks.{Due, cell_in, due_dist, due_rank, no_cell, times_due, IsBlock, IsDueAs}
-use Rattle.awari_block.specs.Fresh.{dist_at, due_of, fresh_of, is_marked, marked_of, nearest_of, AreMarked, IsFirst, IsFirstFrom, IsFresh, IsNext, MarksOne, UnmarksOne}
+use Rattle.awari_block.specs.Fresh.{dist_at, due_of, fresh_of, is_marked, marked_of, nearest_of, AreMarked, IsFirst, IsFresh, IsNext, MarksOne, UnmarksOne}
 use Rattle.awari_block.proofs.BlockLemmas.{eqb_self, first_due, one_if, times_due-cons, times_due-permuted}
 use Rattle.awari_block.proofs.Freshness.{settled_cell}
 use Rattle.awari_block.proofs.Noting.{noted_idle, noted_still}
@@ -191,31 +189,6 @@ module _ (stake : Stake) (start : ℕ) (cells : List Cell) (fresh : InOrder) (so
       let clear = subst (IsFirst fresh.near.items) none marks.noted.is_first in
       let all = all_due start cells fresh.words.items (λ (f : Due). due_dist f ≡ stake.wave → ⊥) (λ k marked near. clear k ((marks.noted.here k).1 (marked, near))) in
       all some.0 some.1 some.2 (ap due_dist some.3 ∙ some.4)
-
-  -- the next of the open wave, behind the board of this rank
-  module _ (rank : ℕ) (low : start ≤ rank) where
-    pub next_none : IsFirstFrom fresh.near.items (rank - start + 1) None → IsNextOfWave seen rank None
-    next_none none =
-        all_due start cells fresh.words.items (λ (f : Due). due_dist f ≡ stake.wave → due_rank f ≤ rank)
-        (λ k marked near. elim (cases_lt rank (start + k)) [
-          | inl behind ↦ absurd (none k (omega (arith, behind, low)) ((marks.noted.here k).1 (marked, near)))
-          | inr before ↦ before
-        ])
-
-    pub next_some : (b : ℕ) → IsFirstFrom fresh.near.items (rank - start + 1) (Some b) → IsNextOfWave seen rank (Some (start + b)) × InBlock seen (start + b)
-    next_some b (behind, near, least) =
-        let both = (marks.noted.here b).0 near in
-        let among = fresh_among start cells fresh.words.items b both.0 (marks.marked.inside b both.0) in
-        let first = first_due stake start cells (fresh_of start cells fresh) among.0 (dist_at cells b, start + b) sound among.1 in (
-          (
-            omega (arith, behind, low),
-            first.3,
-            first.2.near ∙ both.1,
-            all_due start cells fresh.words.items (λ (f : Due). due_dist f ≡ stake.wave → rank < due_rank f → start + b ≤ due_rank f)
-                (λ k marked at above. (let more = least k (omega (arith, above, low)) ((marks.noted.here k).1 (marked, at)) in omega (arith, more))),
-          ),
-          (first.0, first.1),
-        )
 
   -- the first board is taken
   module _ (b : ℕ) (is : fresh.first ≡ Some b) where

@@ -31,11 +31,11 @@ first_of_all words from None low none = λ k marked. none k (low k marked) marke
 first_of_all words from (Some b) low (behind, is, least) = (is, λ k marked. least k (low k marked) marked)
 
 -- one note after others
-pub same_both : (a b c : InOrder) → b ≡ record a { near = b.near; near_count = b.near_count; first = b.first; next = b.next } → c ≡ record b { near = c.near; near_count = c.near_count; first = c.first; next = c.next }
-    → c ≡ record a { near = c.near; near_count = c.near_count; first = c.first; next = c.next }
-same_both a b c one two = two ∙ ap (λ (f : InOrder). record f { near = c.near; near_count = c.near_count; first = c.first; next = c.next }) one
+pub same_both : (a b c : InOrder) → b ≡ record a { near = b.near; first = b.first; next = b.next } → c ≡ record b { near = c.near; first = c.first; next = c.next }
+    → c ≡ record a { near = c.near; first = c.first; next = c.next }
+same_both a b c one two = two ∙ ap (λ (f : InOrder). record f { near = c.near; first = c.first; next = c.next }) one
 
-pub marked_still : (cells : List Cell) (old new : InOrder) → new ≡ record old { near = new.near; near_count = new.near_count; first = new.first; next = new.next } → length new.near.items ≡ length old.near.items → AreMarked cells old → AreMarked cells new
+pub marked_still : (cells : List Cell) (old new : InOrder) → new ≡ record old { near = new.near; first = new.first; next = new.next } → length new.near.items ≡ length old.near.items → AreMarked cells old → AreMarked cells new
 marked_still cells old new same size marked =
     subst (AreMarked cells) (sym same) (record { few = marked.few; room = marked.room; runs = size ∙ marked.runs; inside = marked.inside; count = marked.count; filled = marked.filled })
 

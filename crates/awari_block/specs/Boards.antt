@@ -1,5 +1,5 @@
 -- What becomes of the boards of a block, and what is needed for it. The steps of owners and of segments go by this too.
-use Rattle.std.specs.Prelude.{◌≡◌, ℕ, ℤ, pos, neg_ℤ, ◌-◌, ◌^◌, ◌<◌, ◌≤◌, ◌⊎◌, ◌∷◌, ◌++◌, ◌&&◌, not, Bool, true, false, List, map, length, All, Option, Some, None, slice_index_or, slice_set}
+use Rattle.std.specs.Prelude.{◌≡◌, ℕ, ℤ, pos, neg_ℤ, ◌-◌, ◌^◌, ◌<◌, ◌≤◌, ◌⊎◌, ◌∷◌, ◌++◌, ◌&&◌, not, Bool, true, false, List, map, length, All, Some, slice_index_or, slice_set}
 use Rattle.std.specs.List.Sorted.{IsPermutation}
 use Rattle.awari_block.specs.Steps.{cell_after_note, cell_after_opening}
 use Rattle.awari_block.specs.Cells.{StepsCell, is_settled, view_of}
@@ -70,13 +70,6 @@ pub record CanHear (part : Part) (target pit : ℕ) : Type 0 where
 pub record HearsNote (old new : Part) (target pit : ℕ) (kind : Kind) : Type 0 where
   pub cells : new.cells ≡ slice_set old.cells (target - old.start) (stored_at new target)
   pub cell : view_of (stored_at new target) ≡ cell_after_note (view_of (stored_at old target)) kind pit old.gain old.wave
-
--- the first fresh board of the open wave behind the board of this rank, or none if there is none
-abbrev pub IsNextOfWave : Part → ℕ → Option ℕ → Type 0
-IsNextOfWave part rank None = All (λ f. due_dist f ≡ part.wave → due_rank f ≤ rank) part.fresh
-IsNextOfWave part rank (Some next) =
-    (rank < next) × (0 < times_due part.fresh next) × ((stored_at part next).dist ≡ part.wave)
-    × All (λ f. due_dist f ≡ part.wave → rank < due_rank f → next ≤ due_rank f) part.fresh
 
 -- The first fresh board is of the open wave and of this rank, and is fresh no longer.
 pub record TakesFirst (old new : Part) (rank : ℕ) : Type 0 where

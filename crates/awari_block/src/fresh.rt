@@ -27,8 +27,6 @@ pub struct InOrder {
     filled: Vec<u64>,
     /// How many boards are fresh.
     count: usize,
-    /// How many boards are fresh and of the open wave. It steers speed alone, and no clause speaks of it.
-    near_count: usize,
     /// The index of the first board of the open wave.
     first: Option<u32>,
     /// The least distance of the other fresh boards.
@@ -55,7 +53,6 @@ impl FreshSet for InOrder {
             near,
             filled,
             count: 0,
-            near_count: 0,
             first: None,
             next: None,
         })
@@ -71,7 +68,6 @@ impl FreshSet for InOrder {
     }
 
     fn open_wave(&mut self, wave: u32, cells: &[Cell]) {
-        self.near_count = 0;
         self.first = None;
         self.next = None;
         for part in 0..self.filled.len() {
@@ -88,11 +84,6 @@ impl InOrder {
         ensures { result ≡ self.now.count }
     {
         self.count
-    }
-
-    /// How many boards of the open wave are fresh.
-    pub fn near_len(&self) -> usize {
-        self.near_count
     }
 
     /// The least distance of a fresh board, none if no board is fresh, while `wave` is the open one.
@@ -120,25 +111,15 @@ impl InOrder {
         unmark(&mut self.near, index);
         unmark_empty(&mut self.filled, self.words.as_slice(), run);
         self.count -= 1;
-        self.near_count = self.near_count.saturating_sub(1);
         self.first = first_from(self.near.as_slice(), index);
         Some(index)
-    }
-
-    /// The index of the first board of the open wave from this index on, none if there is none.
-    #[inline(always)]
-    pub fn next_near(&self, from: u32) -> Option<u32>
-        requires { length self.now.near.items ≤ 2 ^ 26 }
-        ensures { IsFirstFrom self.now.near.items from result }
-    {
-        first_from(self.near.as_slice(), from)
     }
 
     /// Notes the fresh boards of these 64 words. A word that has none is not read.
     fn note_part(&mut self, wave: u32, cells: &[Cell], part: usize)
         requires part { part < length self.old.filled.items }
         requires marked { AreMarked cells.now self.old }
-        ensures same { self.new ≡ record self.old { near = self.new.near; near_count = self.new.near_count; first = self.new.first; next = self.new.next } }
+        ensures same { self.new ≡ record self.old { near = self.new.near; first = self.new.first; next = self.new.next } }
         ensures size { length self.new.near.items ≡ length self.old.near.items }
         ensures noted { AreNoted cells.now (IsMarkedBelow self.old.words.items (4096 * part)) wave self.old.near.items self.old.first self.old.next
             → AreNoted cells.now (IsMarkedBelow self.old.words.items (4096 * part + 4096)) wave self.new.near.items self.new.first self.new.next }
@@ -155,7 +136,7 @@ impl InOrder {
     fn note_run(&mut self, wave: u32, cells: &[Cell], run: usize)
         requires run { run < length self.old.words.items }
         requires marked { AreMarked cells.now self.old }
-        ensures same { self.new ≡ record self.old { near = self.new.near; near_count = self.new.near_count; first = self.new.first; next = self.new.next } }
+        ensures same { self.new ≡ record self.old { near = self.new.near; first = self.new.first; next = self.new.next } }
         ensures size { length self.new.near.items ≡ length self.old.near.items }
         ensures noted { AreNoted cells.now (IsMarkedBelow self.old.words.items (64 * run)) wave self.old.near.items self.old.first self.old.next
             → AreNoted cells.now (IsMarkedBelow self.old.words.items (64 * run + 64)) wave self.new.near.items self.new.first self.new.next }
@@ -173,7 +154,7 @@ impl InOrder {
     #[inline(always)]
     fn note(&mut self, wave: u32, dist: u32, index: u32)
         requires { index / 64 < length self.old.near.items }
-        ensures same { self.new ≡ record self.old { near = self.new.near; near_count = self.new.near_count; first = self.new.first; next = self.new.next } }
+        ensures same { self.new ≡ record self.old { near = self.new.near; first = self.new.first; next = self.new.next } }
         ensures size { length self.new.near.items ≡ length self.old.near.items }
         ensures near { dist ≡ wave → MarksOne index self.old.near.items self.new.near.items
             × (self.new.first ≡ Some (lesser self.old.first index)) × (self.new.next ≡ self.old.next) }
@@ -182,7 +163,6 @@ impl InOrder {
     {
         if dist == wave {
             mark(&mut self.near, index);
-            self.near_count = self.near_count.saturating_add(1);
             self.first = Some(lesser(self.first, index));
             return;
         }

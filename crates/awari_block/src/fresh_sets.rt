@@ -1,5 +1,5 @@
 //! How a block keeps its fresh boards. Owners keep them in order, by distance and then by rank, and take
-//! no memory once they begin. Waves keep them in lists by distance, and take them all at once.
+//! no memory once they begin. Segments keep them in lists by distance, and take them all at once.
 
 ghost use Rattle.std.specs.Prelude.{◌≡◌, ℕ, ◌+◌, ◌^◌, ◌<◌, ◌++◌, [], List, IfOk, OnErr, OnOk, length};
 ghost use Rattle.awari_block.specs.FreshSets.{CanOpenAt, GivesAway, HasJoined, IsNewTo, KeepFresh};

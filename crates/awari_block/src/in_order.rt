@@ -2,7 +2,7 @@
 
 ghost use Rattle.std.specs.Prelude.{◌≡◌, ℕ, ℤ, ◌≤◌, ◌↔◌, [], IfSome, IsTrue, Some, length};
 ghost use Rattle.awari_block.specs.Part.{AreFresh, InBlock, IsLeastDue, settled_at};
-ghost use Rattle.awari_block.specs.Boards.{IsNextOfWave, TakesFirst};
+ghost use Rattle.awari_block.specs.Boards.{TakesFirst};
 
 use crate::boards::Boards;
 use crate::fresh::InOrder;
@@ -13,19 +13,6 @@ impl Boards<InOrder> {
         ensures { IsTrue result ↔ (self.now.fresh ≡ []) }
     {
         self.fresh.len() == 0
-    }
-
-    /// How many are fresh.
-    pub fn fresh_boards(&self) -> usize
-        ensures { result ≡ length self.now.fresh }
-    {
-        self.fresh.len()
-    }
-
-    /// How many fresh boards are of the open wave. It tells whether the wave is worth threads; no clause
-    /// speaks of it.
-    pub fn wave_boards(&self) -> usize {
-        self.fresh.near_len()
     }
 
     /// The least distance of a fresh board, none if no board is fresh.
@@ -50,17 +37,5 @@ impl Boards<InOrder> {
         };
         self.spread += 1;
         self.start + index
-    }
-
-    /// The rank of the first fresh board of the open wave behind the board of this rank, none if there
-    /// is none. Condition: the board of this rank is one of the block.
-    #[inline(always)]
-    pub fn next_of_wave(&self, rank: u32) -> Option<u32>
-        requires held { InBlock self.now rank }
-        ensures next { IsNextOfWave self.now rank result }
-        ensures held { IfSome result (InBlock self.now) }
-    {
-        let index = self.fresh.next_near(rank - self.start + 1)?;
-        Some(self.start + index)
     }
 }

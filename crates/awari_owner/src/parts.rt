@@ -163,13 +163,6 @@ impl Part {
         self.boards.due()
     }
 
-    /// How many boards are fresh, at whatever distance.
-    pub fn fresh_boards(&self) -> usize
-        ensures { result ≡ length self.now.fresh }
-    {
-        self.boards.fresh_boards()
-    }
-
     /// How many boards of the block are settled and were spread.
     pub fn boards_spread(&self) -> usize
         ensures count { result ≡ spread_of self.now }

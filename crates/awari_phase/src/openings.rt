@@ -11,9 +11,6 @@ use crate::owners::Owner;
 use rayon::prelude::*;
 use std::thread::Threads;
 
-/// From how many fresh boards on, of all owners together, a distance is opened in threads.
-const MANY_FRESH: usize = 20_000;
-
 /// Opens the next smaller gain in each part, several parts at a time, at distance 0. Conditions: no
 /// board is fresh, nothing is to be sent or waits on a ring, and the open gain is at least 2. It takes
 /// memory for threads alone. If no thread can be started, it opens the parts one after the other.
@@ -46,7 +43,7 @@ fn open_next(owner: &mut Owner)
 }
 
 /// Opens this distance in each part, unless it is open there.
-pub(crate) fn open_waves<R: Threads + Sync>(rt: &R, owners: &mut [Owner], dist: u32)
+pub(crate) fn open_waves(owners: &mut [Owner], dist: u32)
     requires grid { IsGrid (all_ends owners.old) }
     requires sent { AreSent owners.old }
     requires received { AreReceived owners.old }
@@ -54,25 +51,11 @@ pub(crate) fn open_waves<R: Threads + Sync>(rt: &R, owners: &mut [Owner], dist: 
     ensures grown { AllGrown owners.old owners.new }
     ensures together { StayTogether owners.old owners.new }
 {
-    open_each(rt, owners, dist);
-}
-
-/// Opens this distance in each part, several parts at a time if many boards are fresh. If no thread can
-/// be started, it opens the parts one after the other.
-fn open_each<R: Threads + Sync>(rt: &R, owners: &mut [Owner], dist: u32)
-    requires sent { AreSent owners.old }
-    requires nearest { All (λ (o : AnOwner). All (λ f. dist ≤ due_dist f) o.part.fresh) owners.old }
-    ensures { EachTo (JoinsWave dist) owners.old owners.new }
-{
-    if fresh_boards(owners) < MANY_FRESH {
-        open_in_turn(owners, dist);
-    } else {
-        open_together(rt, owners, dist);
-    }
+    open_each(owners, dist);
 }
 
 /// Opens this distance in one part after the other.
-fn open_in_turn(owners: &mut [Owner], dist: u32)
+fn open_each(owners: &mut [Owner], dist: u32)
     requires sent { AreSent owners.old }
     requires nearest { All (λ (o : AnOwner). All (λ f. dist ≤ due_dist f) o.part.fresh) owners.old }
     ensures { EachTo (JoinsWave dist) owners.old owners.new }
@@ -80,30 +63,6 @@ fn open_in_turn(owners: &mut [Owner], dist: u32)
     for i in 0..owners.len() {
         open_wave(&mut owners[i], dist);
     }
-}
-
-/// Opens this distance in several parts at a time.
-fn open_together<R: Threads + Sync>(rt: &R, owners: &mut [Owner], dist: u32)
-    requires sent { AreSent owners.old }
-    requires nearest { All (λ (o : AnOwner). All (λ f. dist ≤ due_dist f) o.part.fresh) owners.old }
-    ensures { EachTo (JoinsWave dist) owners.old owners.new }
-{
-    par_for_each_mut(
-        rt,
-        owners,
-        |_place: usize, owner: &mut Owner|
-            requires { All (λ q. q ≡ []) owner.old.outboxes.queues × All (λ f. dist ≤ due_dist f) owner.old.part.fresh }
-            ensures { JoinsWave dist owner.old owner.new }
-        { open_wave(owner, dist) },
-    );
-}
-
-/// How many boards are fresh, of all owners together.
-fn fresh_boards(owners: &[Owner]) -> usize {
-    owners.iter().fold(
-        0,
-        |sum: usize, owner: &Owner| sum.saturating_add(owner.part.fresh_boards()),
-    )
 }
 
 /// Opens this distance in the part, unless it is open.

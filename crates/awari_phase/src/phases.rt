@@ -62,7 +62,7 @@ pub fn gain_phase_with_progress<R: Threads + Wait + Sync, G: Gate + Sync, P: Pro
         if !progress.is_wanted() {
             return Err(PhaseFault::Stopped);
         }
-        if !is_more(rt, all.as_mut_slice()) {
+        if !is_more(all.as_mut_slice()) {
             return Ok(all);
         }
         all = round(rt, all, gate, sweeps)?;
@@ -71,7 +71,7 @@ pub fn gain_phase_with_progress<R: Threads + Wait + Sync, G: Gate + Sync, P: Pro
 }
 
 /// Whether a round is left. If nothing is left of the open wave, it opens the least one that is due.
-fn is_more<R: Threads + Sync>(rt: &R, owners: &mut [Owner]) -> bool
+fn is_more(owners: &mut [Owner]) -> bool
     requires { IsGrid (all_ends owners.old) }
     ensures grown { AllGrown owners.old owners.new }
     ensures together { StayTogether owners.old owners.new }
@@ -85,7 +85,7 @@ fn is_more<R: Threads + Sync>(rt: &R, owners: &mut [Owner]) -> bool
     let Some(dist) = least_due(owners) else {
         return false;
     };
-    open_waves(rt, owners, dist);
+    open_waves(owners, dist);
     true
 }
 

@@ -14,6 +14,7 @@ pub const MOST_PREDECESSORS: usize = 288;
 /// Puts the predecessors of a board into the first places of `targets`, each in four bytes: eight times
 /// its rank, and its pit whose move leads there. Answers how many there are. Conditions: there are 288
 /// places, and the board has at most 24 stones. It takes no memory.
+#[inline(always)]
 pub fn find_all(board: &PackedBoard, targets: &mut [u32]) -> usize
     requires room { 288 ≤ length targets.old }
     requires low { sum board.now ≤ 24 }

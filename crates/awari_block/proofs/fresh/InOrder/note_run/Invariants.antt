@@ -5,7 +5,7 @@ use Rattle.awari_block.proofs.fresh.InOrder.note_run.Given as goal
 abbrev pub invariant-loop-i : goal.invariant-loop-i
 invariant-loop-i l = record {
   within : l.from ≤ 64;
-  same : l.self ≡ record l.initial.self { near = l.self.near; near_count = l.self.near_count; first = l.self.first; next = l.self.next };
+  same : l.self ≡ record l.initial.self { near = l.self.near; first = l.self.first; next = l.self.next };
   size : length l.self.near.items ≡ length l.initial.self.near.items;
   noted : AreNoted l.cells (IsMarkedBelow l.initial.self.words.items (64 * l.run)) l.wave l.initial.self.near.items l.initial.self.first l.initial.self.next
       → AreNoted l.cells (IsMarkedBelow l.initial.self.words.items (64 * l.run + l.from)) l.wave l.self.near.items l.self.first l.self.next;
