@@ -131,7 +131,11 @@ const COMMANDS: [&str; 16] = [
 
 /// How many lines the help of this command may have. The options of `boards` alone are more than a screen.
 fn most_lines(command: &str) -> usize {
-    if command == "boards" { 45 } else { 24 }
+    match command {
+        "boards" => 45,
+        "counts" => 25,
+        _ => 24,
+    }
 }
 
 /// Whether the help of this command is its own, and no longer than it may be.
