@@ -12,16 +12,14 @@ use std::hint::spin_loop;
 use std::thread::{sleep, yield_now};
 use std::time::{Clock, Duration, Instant};
 
-/// How often a member looks for letters before it gives its processor away, and how often it does that
-/// before it sleeps.
+/// How often a member looks for letters before it gives its processor away.
 const SPINS: u64 = 64;
 
-const YIELDS: u64 = 256;
+/// It sleeps once it has waited so many microseconds for the letters of a turn: for an eighth of that time,
+/// but for so many microseconds at most.
+const YIELDING: u64 = 1000;
 
-/// A sleep lasts so many microseconds at first, and twice as long each time, but for this many times.
-const FIRST_SLEEP: u64 = 50;
-
-const DOUBLINGS: u64 = 4;
+const LONGEST_SLEEP: u64 = 800;
 
 /// The letters of a turn, as far as they came.
 #[derive(Clone, Copy)]
@@ -73,6 +71,7 @@ impl Member {
         ensures { OnOk result (Kept self.old self.new) }
     {
         let mut round = Round::begin(own, self.ends.owner(), self.ends.owners());
+        let before = self.waited;
         for looks in 0..self.crew.patience {
             let awaited = round.awaited;
             self.hear_those_here(&mut round)?;
@@ -80,7 +79,7 @@ impl Member {
                 return Ok(round.heads);
             }
             if round.awaited == awaited {
-                let away = give_way(clock, looks);
+                let away = give_way(clock, looks, self.waited.saturating_sub(before));
                 self.waited = self.waited.saturating_add(away);
             }
         }
@@ -133,25 +132,24 @@ impl Member {
     }
 }
 
-/// Lets the other threads go on, once a member looked so often in vain, and gives how long the processor was
-/// away. Who yields for ever uses up its share of a busy machine by waiting, and so it sleeps in the end.
-fn give_way<C: Clock>(clock: &C, looks: u64) -> Duration {
+/// Lets the other threads go on, once a member looked so often in vain and waited so long, and gives how long
+/// the processor was away. Who yields for ever uses up its share of a busy machine by waiting. There one
+/// yield may take milliseconds, so the time counts, and not how often.
+fn give_way<C: Clock>(clock: &C, looks: u64, waited: Duration) -> Duration {
     if looks < SPINS {
         spin_loop();
         return Duration::ZERO;
     }
     let begun = Instant::now(clock).ok();
-    if looks - SPINS < YIELDS {
+    if waited < Duration::from_micros(YIELDING) {
         yield_now();
     } else {
-        sleep(clock, sleep_after(looks - SPINS - YIELDS));
+        sleep(
+            clock,
+            (waited / 8).min(Duration::from_micros(LONGEST_SLEEP)),
+        );
     }
     since(clock, begun)
-}
-
-/// How long a member sleeps that slept so often before.
-fn sleep_after(sleeps: u64) -> Duration {
-    Duration::from_micros(FIRST_SLEEP << sleeps.min(DOUBLINGS))
 }
 
 /// How long ago that was; zero if the clock gives no time.
