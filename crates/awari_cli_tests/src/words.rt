@@ -132,8 +132,7 @@ const COMMANDS: [&str; 16] = [
 /// How many lines the help of this command may have. The options of `boards` alone are more than a screen.
 fn most_lines(command: &str) -> usize {
     match command {
-        "boards" => 46,
-        "counts" => 25,
+        "boards" => 45,
         _ => 24,
     }
 }

@@ -184,19 +184,18 @@ prints this level's line, and then how many boards have each value and distance:
     value V boards N                or `distance D boards N`
     value 3 distance 5 boards 12    pairs, with LEVEL and --by value,distance
 
---by takes two of value, distance, plan, captures, moves and keep, which differ;
-no plan is -. Other words are `refused 96 Column`. --csv prints tables: of all
-levels, of LEVEL, or of the pairs of --by. docs/FORMATS.md lists the refusals.";
+--by takes two unlike ones of value, distance, plan (- if none), captures, moves
+and keep, else `refused 96 Column`. --csv prints tables: of all levels, of LEVEL
+or of the pairs of --by. docs/FORMATS.md lists the refusals.";
 
 pub const BOARDS_HELP: &str = "\
 It prints a line for each board that matches all options, by rank:
 
     BOARD V P D    the board, its value, a pit to play or -, and its distance
 
-With --with-moves and --with-keep a line ends in these numbers. --sort takes a
-COLUMN: rank, value, distance, plan, captures, moves or keep. A - before it puts
-the greatest first; another word is `refused 96 Column`. --most N prints the
-first N of all that match, as sorted.
+With --with-moves and --with-keep a line ends in these numbers. COLUMN is rank,
+value, distance, plan, captures, moves or keep, behind a - with the greatest
+first; another word is `refused 96 Column`. --most N prints the first N of them.
 
 A..B are the numbers from A to B; A.. and ..B have one end, and A is one number.
 The levels are verified first. The status is 0, or 1 for a refusal, as `refused
