@@ -3,6 +3,7 @@ use Rattle.std.proofs.Common.{◌≡◌, ◌≢◌, ℕ, ◌+◌, ◌-◌, ◌<�
 use Rattle.std.proofs.lemmas.Bool.Decides.{nat_tests}
 use Rattle.std.proofs.lemmas.Bool.{cases_eq, cases_lt, false≢true}
 use Rattle.awari_block.specs.declared.cells.Mark.{Mark}
+use Rattle.awari_block.specs.declared.cells.Mark.TheVariants as mark
 use Rattle.std.proofs.lemmas.List.Sums.{sum_by-cons, sum_by-set}
 use Rattle.std.proofs.lemmas.List.Sorted.{sum_by-IsPermutation, All-permutation, IsPermutation-sym}
 use Rattle.std.proofs.lemmas.List.Elements.{All-set, All-cons, All-tail, recursion_from_All, All-from_recursion}
@@ -225,6 +226,13 @@ pub put_unspread : (start : ℕ) (cells : List Cell) (fresh after : List Due) (r
     → length after + unsettled (set cells (rank - start) c) ≡ length fresh + unsettled cells
 put_unspread start cells fresh after rank c high step =
     let sums = sum_by-set (λ (d : Cell). cond (not (is_settled d.mark)) 1 0) cells (rank - start) c no_cell high in omega (arith, sums, step)
+
+-- where a cell is not settled some cell is not
+pub some_unsettled : (cells : List Cell) (k : ℕ) → k < length cells → is_settled (get_or cells k no_cell).mark ≡ false → 0 < unsettled cells
+some_unsettled cells k inside unset =
+    let sums = sum_by-set (λ (d : Cell). cond (not (is_settled d.mark)) 1 0) cells k (record no_cell { mark = mark.Settled }) no_cell inside in
+    let one : one_if (not (is_settled (get_or cells k no_cell).mark)) ≡ 1 = ap (λ b. one_if (not b)) unset in
+    omega (arith, sums, one)
 
 -- ---- the first of the fresh boards
 

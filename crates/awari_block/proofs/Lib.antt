@@ -1,9 +1,5 @@
-pub mod Bits
-pub mod Marks
-pub mod Noting
-pub mod FreshLists
 pub mod BlockLemmas
-pub mod FreshBlocks
+pub mod FreshHeap
 pub mod Opening
 pub mod Freshness
 pub mod Settling

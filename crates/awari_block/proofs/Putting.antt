@@ -13,7 +13,7 @@ use Rattle.awari_block.specs.Cells.{is_settled}
 use Rattle.awari_block.specs.FreshSets.{HasJoined, IsNewTo, KeepFresh}
 use Rattle.awari_block.specs.Part.{Part, part_of, stored_at}
 use Rattle.awari_block.proofs.Awaiting.{awaited_put}
-use Rattle.awari_block.proofs.BlockLemmas.{is_settled_in-here, put_keeps}
+use Rattle.awari_block.proofs.BlockLemmas.{is_settled_in-here, put_keeps, some_unsettled}
 use Rattle.awari_block.proofs.Settling.{joined, joined_block, joined_settles, kept, kept_block, kept_settles}
 
 module _ {F : Type 0} (dues : ℕ → List Cell → F → List Due) (right : ℕ → ℕ → List Cell → F → Type 0) where
@@ -66,6 +66,7 @@ module _ {F : Type 0} (dues : ℕ → List Cell → F → List Due) (right : ℕ
         at = let low = can.held.0 in omega (arith, low);
         right = sound.right;
         new = none (is_settled_in a.start a.cells.items rank) (sound.block.settled rank) (is_settled_in-here a.start a.cells.items rank can.held.0 ∙ unset_here);
+        room = let count = sound.count in let some = some_unsettled a.cells.items (rank - a.start) can.held.1 unset_here in omega (arith, count, some);
         others = keep;
         valued = λ zero. let one = sound.opened in elim ((can.steps.timely unset_here settled).0) [
           | inl won ↦ omega (arith, ints, zero, won, one)

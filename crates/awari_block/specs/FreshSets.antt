@@ -19,6 +19,7 @@ pub record IsNewTo {F : Type 0} (dues : ℕ → List Cell → F → List Due) (i
   pub at : start + index ≡ rank
   pub right : is_right wave start cells fresh
   pub new : times_due (dues start cells fresh) rank ≡ 0
+  pub room : length (dues start cells fresh) < length cells
   pub others : KeepFresh start cells (slice_set cells index cell) (dues start cells fresh)
   pub valued : cell.score ≢ pos 0
 

@@ -6,7 +6,7 @@ pub mod Steps
 pub mod Cells
 pub mod Blocks
 pub mod FreshSets
-pub mod Fresh
+pub mod FreshHeap
 pub mod Part
 pub mod Boards
 pub mod BoardsFields

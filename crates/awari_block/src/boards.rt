@@ -1,8 +1,7 @@
 //! The boards of a block: what is known of each, which are fresh, and what is open.
 
-ghost use Rattle.std.specs.Prelude.{◌≡◌, ◌+◌, ◌-◌, ◌^◌, ◌<◌, ◌≤◌, ◌↔◌, ◌++◌, ℕ, List, IsTrue, IfNone, IfOk, IfSome, OnErr, OnOk, All, true, [], length, sum, vec_len, slice_set};
-ghost use Rattle.awari_board.specs.Rules.{IsBoard};
-ghost use Rattle.awari_rank.specs.Rank.{rank_of, size_of};
+ghost use Rattle.std.specs.Prelude.{◌≡◌, ◌+◌, ◌-◌, ◌^◌, ◌<◌, ◌≤◌, ◌↔◌, ◌++◌, ℕ, List, IsTrue, IfNone, IfOk, IfSome, OnErr, OnOk, All, true, [], length, vec_len, slice_set};
+ghost use Rattle.awari_rank.specs.Rank.{size_of};
 ghost use Rattle.awari_block.specs.Cells.{Fits, FitsBy, is_settled};
 ghost use Rattle.awari_block.specs.Blocks.{due_dist};
 ghost use Rattle.awari_block.specs.Part.{Part as PartView, AreFresh, InBlock, stored_at, IsClosed};
@@ -15,16 +14,14 @@ use crate::closed::ClosedPart;
 use crate::fresh_sets::{ByKind, FreshSet};
 use crate::notes::{Kind, Note};
 use crate::stakes::Stake;
-use awari_index::Index;
-use awari_packed::PackedBoard;
 use std::alloc::{AllocError, Global};
 use std::marker::Model;
 
 /// The boards of a block: what is open, a cell for each board, and which boards are fresh, that is,
 /// settled and not spread yet.
 ///
-/// Stake, cells and fresh boards go together: the fresh boards are ordered by the distances in the
-/// cells, and the open gain limits what a cell may hold. The last two fields save time. One says
+/// Stake, cells and fresh boards go together: a fresh board has the distance of its cell, and the open
+/// gain limits what a cell may hold. The last two fields save time. One says
 /// which gain each board awaits, and one how many boards were spread.
 #[derive(Drop)]
 pub struct Boards<F: FreshSet> {
@@ -98,6 +95,7 @@ impl<F: FreshSet> Boards<F> {
     pub fn block(&self) -> (u32, u32)
         ensures start { result.0 ≡ self.now.start }
         ensures end { result.1 ≡ self.now.start + length self.now.cells }
+        ensures within { result.1 ≤ size_of self.now.level }
     {
         let start = self.start;
         (start, start + self.cells.len() as u32)
@@ -126,19 +124,6 @@ impl<F: FreshSet> Boards<F> {
         ensures fits { Fits (stake_of self.now) result }
     {
         self.cells[(rank - self.start) as usize]
-    }
-
-    /// The board of this rank, which is one of the block, by the index of its level.
-    #[inline(always)]
-    pub fn board(&self, index: &Index, rank: u32) -> PackedBoard
-        requires held { InBlock self.now rank }
-        requires index { index.now ≡ self.now.level }
-        ensures board { IsBoard result }
-        ensures stones { sum result ≡ self.now.level }
-        ensures rank { rank_of result ≡ rank }
-    {
-        let _ = &self.cells;
-        index.board(rank)
     }
 
     /// The open wave, and no fresh board is nearer.

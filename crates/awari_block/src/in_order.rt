@@ -5,14 +5,51 @@ ghost use Rattle.awari_block.specs.Part.{AreFresh, InBlock, IsLeastDue, settled_
 ghost use Rattle.awari_block.specs.Boards.{TakesFirst};
 
 use crate::boards::Boards;
-use crate::fresh::InOrder;
+use crate::cells::Cell;
+use crate::fresh_sets::FreshSet;
+use std::alloc::{AllocError, Global};
+use std::cmp::Reverse;
+use std::collections::BinaryHeap;
+
+/// The fresh boards of a block in a heap, the first one on top.
+#[derive(Drop)]
+pub struct InOrder {
+    /// Distance and rank of each.
+    heap: BinaryHeap<Reverse<(u32, u32)>>,
+}
+
+impl FreshSet for InOrder {
+    ghost use Rattle.awari_block.specs.FreshHeap.{IsInOrder, fresh_of};
+
+    ghost dues = { λ start cells fresh. fresh_of fresh };
+
+    ghost right = { λ wave start cells fresh. IsInOrder cells fresh };
+
+    ghost lacks = { ⊥ };
+
+    /// It takes eight bytes a board.
+    fn new(alloc: Global, boards: usize) -> Result<InOrder, AllocError> {
+        let heap = BinaryHeap::with_capacity(alloc, boards)?;
+        Ok(InOrder { heap })
+    }
+
+    /// There is room for each board, so it takes no memory.
+    fn insert(&mut self, _wave: u32, rank: u32, _index: u32, cell: Cell) -> Result<(), AllocError> {
+        self.heap.push(Reverse((cell.dist, rank)))?;
+        Ok(())
+    }
+
+    fn open_wave(&mut self, _wave: u32, _cells: &[Cell]) {}
+
+    fn depend_on_their_cells() {}
+}
 
 impl Boards<InOrder> {
     /// Whether none is fresh.
     pub fn idle(&self) -> bool
         ensures { IsTrue result ↔ (self.now.fresh ≡ []) }
     {
-        self.fresh.len() == 0
+        self.fresh.heap.is_empty()
     }
 
     /// The least distance of a fresh board, none if no board is fresh.
@@ -21,7 +58,8 @@ impl Boards<InOrder> {
         ensures timely { IfSome result (λ dist. self.now.wave ≤ dist) }
         ensures settled { IfSome result (λ dist. (rank : ℕ) × (v : ℤ) × InBlock self.now rank × (settled_at self.now rank ≡ Some (v, dist))) }
     {
-        self.fresh.due(self.stake.wave)
+        let Reverse((dist, _rank)) = *self.fresh.heap.peek()?;
+        Some(dist)
     }
 
     /// Makes the first fresh board fresh no longer, and gives its rank. Conditions: a board is fresh,
@@ -32,10 +70,10 @@ impl Boards<InOrder> {
         ensures held { InBlock self.new result }
         ensures fresh { AreFresh self.new }
     {
-        let Some(index) = self.fresh.take_first() else {
+        let Some(Reverse((_dist, rank))) = self.fresh.heap.pop() else {
             unreachable!()
         };
         self.spread += 1;
-        self.start + index
+        rank
     }
 }

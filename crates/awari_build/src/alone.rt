@@ -20,7 +20,7 @@ use std::alloc::{AllocError, Global};
 
 /// The shelf's next level, built by one part that has all its boards. It always returns. Refused as 51
 /// `TooHigh` if the shelf has all levels, and as 53 `Memory` if memory runs out. It takes memory for
-/// the part, less than ten bytes a board, and for the entries.
+/// the part, seventeen bytes a board, and for the entries.
 ///
 /// The level is proved right, with the lowest plans, so there is one level that it may be. Nothing
 /// verifies it when the program runs.

@@ -27,8 +27,8 @@ use std::sync::Wait;
 use std::thread::Threads;
 
 /// The shelf's next level, built by several owners, each in a thread of its own, that work as `pace`
-/// says. Each enters the gate at the start of each of its sweeps. It takes memory for the parts, a
-/// little more than nine bytes a board, for the rings and for the entries.
+/// says. Each enters the gate at the start of each of its sweeps. It takes memory for the parts,
+/// seventeen bytes a board, for the rings and for the entries.
 ///
 /// It is refused in this order:
 ///

@@ -4,7 +4,6 @@ use Rattle.std.proofs.lemmas.Bool.{cases_eq, cases_lt}
 use Rattle.awari_lines.specs.declared.ends.Ends.{Ends}
 use Rattle.awari_lines.specs.declared.ends.RingPair.{RingPair}
 use Rattle.awari_lines.specs.Rings.{AreExact, LookedAt, NoneWait, NothingWaits, IsGrid, SameHistory, sent_on, received_on, waiting_on, pair_of}
-use Rattle.awari_block.specs.Each.{EachTo}
 use Rattle.awari_lines.proofs.Grids.{history_then}
 
 -- the pairs that were looked at
@@ -24,7 +23,8 @@ module _ {T : Type 0} where
 
   pub record SettledTo (es fs : List (Ends T)) (empty : Bool) (j i : ℕ) : Type 0 where
     pub grid : IsGrid fs
-    pub same : EachTo SameHistory es fs
+    pub many : length fs ≡ length es
+    pub same : (i : ℕ) (d : Ends T) → i < length es → SameHistory (get_or es i d) (get_or fs i d)
     pub exact : (x y : ℕ) (d : Ends T) → x < y → y < length es → IsDone j i x y → Between ExactOn fs x y d
     pub flag : IsTrue empty ↔ ((x y : ℕ) (d : Ends T) → x < y → y < length es → IsDone j i x y → Between QuietOn fs x y d)
 
@@ -42,6 +42,7 @@ module _ {T : Type 0} where
       let on : (x y : ℕ) → IsDone j i x y → IsDone (j + 1) 0 x y = λ x y w. elim w [ inl p ↦ inl (omega arith) | inr p ↦ inl (let q : y ≡ j = p.0 in omega arith) ] in
       record {
         grid = s.grid;
+        many = s.many;
         same = s.same;
         exact = λ x y d l h w. s.exact x y d l h (back x y l w);
         flag = ((λ t x y d l h w. s.flag.0 t x y d l h (back x y l w)), (λ a. s.flag.1 (λ x y d l h w. a x y d l h (on x y w))));
@@ -50,10 +51,10 @@ module _ {T : Type 0} where
   module _ (es fs hs : List (Ends T)) (empty quiet empty' : Bool) (j i : ℕ) (lt : i < j) (fits : j < length es) (s : SettledTo es fs empty j i) (long : length hs ≡ length fs) (w : LookedAt fs hs i j)
       (flag : (d : Ends T) → IsTrue quiet ↔ NothingWaits (get_or hs i d) (get_or hs j d)) (both : IsTrue empty' ↔ (IsTrue empty × IsTrue quiet)) where
     owner_i : (d : Ends T) → (get_or hs i d).owner ≡ i
-    owner_i d = w.grid.owner i d (let p : length hs ≡ length fs = long in let q : length fs ≡ length es = s.same.many in omega arith)
+    owner_i d = w.grid.owner i d (let p : length hs ≡ length fs = long in let q : length fs ≡ length es = s.many in omega arith)
 
     owner_j : (d : Ends T) → (get_or hs j d).owner ≡ j
-    owner_j d = w.grid.owner j d (let p : length hs ≡ length fs = long in let q : length fs ≡ length es = s.same.many in omega arith)
+    owner_j d = w.grid.owner j d (let p : length hs ≡ length fs = long in let q : length fs ≡ length es = s.many in omega arith)
 
     here_exact : (d : Ends T) → Between ExactOn hs i j d
     here_exact d =
@@ -74,7 +75,7 @@ module _ {T : Type 0} where
     -- the rings of a pair that was looked at before
     stays : (R : Option (RingPair T) → Option (RingPair T) → Type 0) (x y : ℕ) (d : Ends T) → x < y → y < length es → IsDone j i x y → Between R fs x y d → Between R hs x y d
     stays R x y d l h done r =
-        let q : length fs ≡ length es = s.same.many in
+        let q : length fs ≡ length es = s.many in
         let apart : ¬ ((x ≡ i) × (y ≡ j)) = λ e. elim done [ inl p ↦ absurd (let a : y ≡ j = e.1 in omega arith) | inr p ↦ absurd (let a : x ≡ i = e.0 in let b : x < i = p.1 in omega arith) ] in
         let across : ¬ ((x ≡ j) × (y ≡ i)) = λ e. absurd (let a : x ≡ j = e.0 in let b : y ≡ i = e.1 in omega arith) in
         let one : pair_of (get_or hs x d) y ≡ pair_of (get_or fs x d) y = w.others x y d (omega arith) (λ e. absurd (omega (arith, e))) apart across in
@@ -83,7 +84,7 @@ module _ {T : Type 0} where
 
     stayed : (R : Option (RingPair T) → Option (RingPair T) → Type 0) (x y : ℕ) (d : Ends T) → x < y → y < length es → IsDone j i x y → Between R hs x y d → Between R fs x y d
     stayed R x y d l h done r =
-        let q : length fs ≡ length es = s.same.many in
+        let q : length fs ≡ length es = s.many in
         let apart : ¬ ((x ≡ i) × (y ≡ j)) = λ e. elim done [ inl p ↦ absurd (let a : y ≡ j = e.1 in omega arith) | inr p ↦ absurd (let a : x ≡ i = e.0 in let b : x < i = p.1 in omega arith) ] in
         let across : ¬ ((x ≡ j) × (y ≡ i)) = λ e. absurd (let a : x ≡ j = e.0 in let b : y ≡ i = e.1 in omega arith) in
         let one : pair_of (get_or hs x d) y ≡ pair_of (get_or fs x d) y = w.others x y d (omega arith) (λ e. absurd (omega (arith, e))) apart across in
@@ -106,10 +107,8 @@ module _ {T : Type 0} where
     pub settled_more : SettledTo es hs empty' j (i + 1)
     settled_more = record {
       grid = w.grid;
-      same = record {
-        many = long ∙ s.same.many;
-        each = λ k d h. history_then (get_or es k d) (get_or fs k d) (get_or hs k d) (s.same.each k d h) (w.same k d (let q : length fs ≡ length es = s.same.many in omega arith));
-      };
+      many = long ∙ s.many;
+      same = λ k d h. history_then (get_or es k d) (get_or fs k d) (get_or hs k d) (s.same k d h) (w.same k d (let q : length fs ≡ length es = s.many in omega arith));
       exact = λ x y d l h done. elim (done_cases x y done) [
         | inl e ↦ at_last ExactOn x y d e.0 e.1 (here_exact d)
         | inr before ↦ stays ExactOn x y d l h before (s.exact x y d l h before)
@@ -129,7 +128,7 @@ module _ {T : Type 0} where
   -- all rows are done
   pub settled_exact : (es fs : List (Ends T)) (empty : Bool) (j : ℕ) → length es ≤ j → SettledTo es fs empty j 0 → AreExact fs
   settled_exact es fs empty j long s x y d hx hy n =
-      let many = s.same.many in
+      let many = s.many in
       elim (cases_lt x y) [
         | inl l ↦ (s.exact x y d l (omega (arith, hy, many)) (inl (omega arith))).0
         | inr l ↦ (s.exact y x d (omega (arith, n)) (omega (arith, hx, many)) (inl (omega arith))).1
@@ -137,7 +136,7 @@ module _ {T : Type 0} where
 
   pub settled_flag : (es fs : List (Ends T)) (empty : Bool) (j : ℕ) → length es ≤ j → SettledTo es fs empty j 0 → IsTrue empty ↔ NoneWait fs
   settled_flag es fs empty j long s =
-      let many = s.same.many in (
+      let many = s.many in (
         (λ t x y d hx hy n. elim (cases_lt x y) [
           | inl l ↦ (s.flag.0 t x y d l (omega (arith, hy, many)) (inl (omega arith))).0
           | inr l ↦ (s.flag.0 t y x d (omega (arith, n)) (omega (arith, hx, many)) (inl (omega arith))).1

@@ -1,8 +1,7 @@
 //! What all rings hold, once all ends are in one thread.
 
-ghost use Rattle.std.specs.Prelude.{◌<◌, ◌↔◌, length, slice_index_or, IsTrue};
+ghost use Rattle.std.specs.Prelude.{◌≡◌, ◌<◌, ◌↔◌, ℕ, length, slice_index_or, IsTrue};
 ghost use Rattle.awari_lines.specs.Rings.{AreExact, IsGrid, LookedAt, NoneWait, NothingWaits, SameHistory};
-ghost use Rattle.awari_block.specs.Each.{EachTo};
 ghost use Rattle.awari_lines.specs.declared.ends.Ends.{Ends as AnEnds};
 
 use crate::ends::Ends;
@@ -13,7 +12,8 @@ use crate::ends::Ends;
 pub fn settle<T>(all: &mut [Ends<T>]) -> bool
     requires { IsGrid all.old }
     ensures grid { IsGrid all.new }
-    ensures same { EachTo SameHistory all.old all.new }
+    ensures many { length all.new ≡ length all.old }
+    ensures same { (i : ℕ) (d : AnEnds T) → i < length all.old → SameHistory (slice_index_or all.old i d) (slice_index_or all.new i d) }
     ensures exact { AreExact all.new }
     ensures flag { IsTrue result ↔ NoneWait all.new }
 {

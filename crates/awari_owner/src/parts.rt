@@ -1,7 +1,8 @@
 //! One owner's part of a level, and what is asked of it between two spreads.
 
-ghost use Rattle.std.specs.Prelude.{◌≡◌, ℕ, ℤ, ◌+◌, ◌^◌, ◌<◌, ◌≤◌, ◌↔◌, IsTrue, OnOk, OnErr, IfOk, IfErr, IfSome, All, true, false, length, vec_len, []};
-ghost use Rattle.awari_rank.specs.Rank.{size_of};
+ghost use Rattle.std.specs.Prelude.{◌≡◌, ℕ, ℤ, ◌+◌, ◌^◌, ◌<◌, ◌≤◌, ◌↔◌, IsTrue, OnOk, OnErr, IfOk, IfErr, IfSome, All, true, false, length, sum, vec_len, []};
+ghost use Rattle.awari_board.specs.Rules.{IsBoard};
+ghost use Rattle.awari_rank.specs.Rank.{rank_of, size_of};
 ghost use Rattle.awari_block.specs.Cells.{IsWithin, IsBeyond};
 ghost use Rattle.awari_block.specs.Blocks.{due_dist};
 ghost use Rattle.awari_block.specs.Counts.{spread_of};
@@ -22,6 +23,7 @@ use crate::spreads::{Predecessors, tell_all};
 use awari_block::{Block, Boards, Cell, ClosedPart, InOrder, Note, block_length};
 use awari_board::{SIDE, moves_keep_boards};
 use awari_index::Index;
+use awari_packed::PackedBoard;
 use awari_rank::{ranks_tell_boards_apart, size};
 use awari_scan::{scanned_cells, scanned_cells_parallel};
 use awari_table::{Shelf, boards_are_right};
@@ -55,8 +57,8 @@ impl Part {
     /// and no gain is open. Conditions: there are 1 to 16 owners, `owner` is below `owners`, and the
     /// shelf has at most `HIGHEST_LEVEL` levels. Refused as 33 `Memory` if memory runs out.
     ///
-    /// It takes all the memory that the part will ever need: less than ten bytes a board, and an index
-    /// of the level.
+    /// It takes all the memory that the part will ever need: seventeen bytes a board, and an index of the
+    /// level.
     pub fn scan(alloc: Global, shelf: &Shelf, owners: u8, owner: u8) -> Result<Part, OwnerFault>
         requires owners { (1 ≤ owners) × (owners ≤ 16) }
         requires owner { owner < owners }
@@ -254,7 +256,7 @@ impl Part {
         ranks_tell_boards_apart();
         let span = block_length(size(stake.level), outboxes.queues.len() as u8);
         let rank = self.boards.take_first();
-        let predecessors = Predecessors::of(self.boards.board(&self.index, rank));
+        let predecessors = Predecessors::of(board_of(&self.boards, &self.index, rank));
         let kind = self.boards.cell(rank).kind();
         tell_all(
             &mut self.boards,
@@ -297,13 +299,26 @@ impl Part {
         ensures { IsTrue result ↔ Leaves self.now target pit }
     {
         ranks_tell_boards_apart();
-        let board = self.boards.board(&self.index, target);
+        let board = board_of(&self.boards, &self.index, target);
         if !board.legal(pit) {
             return false;
         }
         let moved = board.play(pit);
         moved.captured == 0 && !self.boards.holds(moved.board.rank())
     }
+}
+
+/// The board of this rank, which is one of these.
+#[inline(always)]
+fn board_of(boards: &Boards<InOrder>, index: &Index, rank: u32) -> PackedBoard
+    requires held { InBlock boards.now rank }
+    requires index { index.now ≡ boards.now.level }
+    ensures board { IsBoard result }
+    ensures stones { sum result ≡ boards.now.level }
+    ensures rank { rank_of result ≡ rank }
+{
+    let _block = boards.block();
+    index.board(rank)
 }
 
 /// The boards of the shelf's next level from rank `start` on that have these cells, with the index of that

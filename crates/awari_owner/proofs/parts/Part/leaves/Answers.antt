@@ -26,15 +26,15 @@ leaves_by part target pit b injective is stones at c q move = (
 pub returns-then-moved-eq0 : goal.returns-then-moved-eq0
 returns-then-moved-eq0 c =
     let part : Part = c.self.inside.boards in
-    let board = c.board-board.ensures in
-    let by = leaves_by part c.args.target c.args.pit c.board-board.result c.ranks_tell_boards_apart.ensures board.board board.stones board.rank c.play-moved.result.captured c.play-moved.result.board c.play-moved.ensures.moved in
+    let board = c.board_of-board.ensures in
+    let by = leaves_by part c.args.target c.args.pit c.board_of-board.result c.ranks_tell_boards_apart.ensures board.board board.stones board.rank c.play-moved.result.captured c.play-moved.result.board c.play-moved.ensures.moved in
     let out = out_is c.holds.result _ (subst (λ r. IsTrue c.holds.result ↔ InBlock part r) c.rank.ensures.rank c.holds.ensures) in
     subst (λ (o : Part). IsTrue (not c.holds.result) ↔ Leaves o c.args.target c.args.pit) c.self.view_is (λ t. by.0 (c.if-moved-eq0.true, out.0 t), λ leaves. out.1 (by.1 leaves).1)
 
 pub returns-else-moved-eq0 : goal.returns-else-moved-eq0
 returns-else-moved-eq0 c =
     let part : Part = c.self.inside.boards in
-    let board = c.board-board.ensures in
-    let by = leaves_by part c.args.target c.args.pit c.board-board.result c.ranks_tell_boards_apart.ensures board.board board.stones board.rank c.play-moved.result.captured c.play-moved.result.board c.play-moved.ensures.moved in
+    let board = c.board_of-board.ensures in
+    let by = leaves_by part c.args.target c.args.pit c.board_of-board.result c.ranks_tell_boards_apart.ensures board.board board.stones board.rank c.play-moved.result.captured c.play-moved.result.board c.play-moved.ensures.moved in
     subst (λ (o : Part). IsTrue (c.play-moved.result.captured == 0) ↔ Leaves o c.args.target c.args.pit) c.self.view_is
     (λ t. absurd (c.if-moved-eq0.false (eqb-true _ _ t)), λ leaves. absurd (c.if-moved-eq0.false (by.1 leaves).0))

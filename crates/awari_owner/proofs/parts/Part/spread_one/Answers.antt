@@ -29,13 +29,13 @@ due_now : (old part : Part) (stake : Stake) (dist : ℕ) → stake ≡ stake_of 
 due_now old part stake dist at near view due =
     subst (λ (o : Part). IsLeastDue o (Some o.wave)) view (subst (λ d. IsLeastDue old (Some d)) (near ∙ ap (λ (p : Stake). p.wave) at) due)
 
-pub board-requires-clause-index : goal.board-requires-clause-index
-board-requires-clause-index c =
+pub board_of-requires-clause-index : goal.board_of-requires-clause-index
+board_of-requires-clause-index c =
     let takes : TakesFirst c.self.inside.boards c.take_first-rank.new.self c.take_first-rank.result = c.take_first-rank.ensures.first in
     c.self.invariant.index ∙ sym (ap (λ (t : Part). t.level) takes.rest)
 
 pub tell_all-requires-clause-found : goal.tell_all-requires-clause-found
-tell_all-requires-clause-found c = subst (λ n. ArePredecessors n c.of-predecessors.result) c.board.ensures.stones c.of-predecessors.ensures.found
+tell_all-requires-clause-found c = subst (λ n. ArePredecessors n c.of-predecessors.result) c.board_of.ensures.stones c.of-predecessors.ensures.found
 
 pub tell_all-requires-clause-can : goal.tell_all-requires-clause-can
 tell_all-requires-clause-can c =
@@ -79,7 +79,7 @@ invariant_of-outboxes-2 c =
     let puts : PutsAll old c.block_length-span.result c.kind-kind.result c.reserve_others.new.queues.items c.tell_all.new.queues.items told.sources =
     subst (λ (t : Part). PutsAll t c.block_length-span.result c.kind-kind.result c.reserve_others.new.queues.items c.tell_all.new.queues.items told.sources) takes.rest told.puts in
     let are = sources_of c.of-predecessors.result.board told.sources (λ p x is move. c.moves_keep_boards.ensures.stones p c.of-predecessors.result.board x 0 is move) told.predecessors in
-    let stones = ap sum c.of-predecessors.ensures.same ∙ c.board.ensures.stones ∙ ap (λ (t : Part). t.level) takes.rest in
+    let stones = ap sum c.of-predecessors.ensures.same ∙ c.board_of.ensures.stones ∙ ap (λ (t : Part). t.level) takes.rest in
     let many : 0 < size_of old.level = subst (λ (p : Stake). 0 < size_of p.level) c.stake-stake.ensures.stake (subst (λ n. 0 < n) c.size.ensures.boards c.size.ensures.some) in
     let spans = span_is old c.stake-stake.result c.size.result c.len.result (length c.outboxes.inside.queues.items) c.block_length-span.result c.stake-stake.ensures.stake c.size.ensures.boards (search rules) c.block_length-span.ensures in
     let after : length c.tell_all.new.queues.items ≡ length c.outboxes.inside.queues.items = search rules in
@@ -111,7 +111,7 @@ returns-clause-spread c = λ _.
     (λ p x r is move. c.moves_keep_boards.ensures.board p r x 0 is move)
     (λ p x r is move. c.moves_keep_boards.ensures.stones p r x 0 is move)
     (let far = c.if-dist.false in let at = c.if-dist-stake.false in search (rules, wave)) c.self.invariant.opened
-    (subst IsBoard (sym c.of-predecessors.ensures.same) c.board.ensures.board) (ap sum c.of-predecessors.ensures.same ∙ c.board.ensures.stones ∙ ap (λ (t : Part). t.level) takes.rest) (ap rank_of c.of-predecessors.ensures.same ∙ c.board.ensures.rank)
+    (subst IsBoard (sym c.of-predecessors.ensures.same) c.board_of.ensures.board) (ap sum c.of-predecessors.ensures.same ∙ c.board_of.ensures.stones ∙ ap (λ (t : Part). t.level) takes.rest) (ap rank_of c.of-predecessors.ensures.same ∙ c.board_of.ensures.rank)
     c.cell.ensures.stored c.kind-kind.ensures told.predecessors told.hears in
     let many : 0 < size_of old.level = subst (λ (p : Stake). 0 < size_of p.level) c.stake-stake.ensures.stake (subst (λ n. 0 < n) c.size.ensures.boards c.size.ensures.some) in
     let spans = span_is old c.stake-stake.result c.size.result c.len.result (length c.outboxes.inside.queues.items) c.block_length-span.result c.stake-stake.ensures.stake c.size.ensures.boards (search rules) c.block_length-span.ensures in
