@@ -1,25 +1,25 @@
 -- What the boards of a block are once another cell stands in place of one.
-use Rattle.std.proofs.Common.{◌≡◌, ℕ, ◌-◌, ◌≤◌, Bool, if◌then◌else◌, true, false, List, get_or, set, inl, inr, sym, ap, subst, ◌∙◌, arith}
+use Rattle.std.proofs.Common.{◌≡◌, ℕ, ◌-◌, true, false, List, ◌∷◌, get_or, set, inl, inr, sym, ap, subst, ◌∙◌, arith}
 use Rattle.std.proofs.lemmas.Int.{ints}
-use Rattle.std.proofs.lemmas.Bool.{false≢true}
 use Rattle.std.proofs.lemmas.List.{get_or_default}
+use Rattle.std.specs.List.Sorted.{IsPermutation}
 use Rattle.std.specs.Vec.{with_item}
 use Rattle.awari_block.specs.declared.boards.Boards.TheInside.{Inside}
 use Rattle.awari_block.specs.declared.cells.Cell.{Cell}
-use Rattle.awari_block.specs.Blocks.{Due, cell_in, is_settled_in, no_cell, times_due, IsBlock}
+use Rattle.awari_block.specs.Blocks.{Due, cell_in, no_cell, IsBlock}
 use Rattle.awari_block.specs.Boards.{CanPut, Joins, Settles}
 use Rattle.awari_block.specs.BoardsFields.{IsBoards}
 use Rattle.awari_block.specs.Cells.{is_settled}
-use Rattle.awari_block.specs.FreshSets.{HasJoined, IsNewTo, KeepFresh}
+use Rattle.awari_block.specs.FreshSets.{CanJoin, KeepFresh}
 use Rattle.awari_block.specs.Part.{Part, part_of, stored_at}
 use Rattle.awari_block.proofs.Awaiting.{awaited_put}
-use Rattle.awari_block.proofs.BlockLemmas.{is_settled_in-here, put_keeps, some_unsettled}
+use Rattle.awari_block.proofs.BlockLemmas.{put_keeps, some_unsettled}
 use Rattle.awari_block.proofs.Settling.{joined, joined_block, joined_settles, kept, kept_block, kept_settles}
 
-module _ {F : Type 0} (dues : ℕ → List Cell → F → List Due) (right : ℕ → ℕ → List Cell → F → Type 0) where
+module _ {F : Type 0} (dues : F → List Due) (right : ℕ → List Cell → F → Type 0) where
   -- what callers see of these boards
   abbrev pub seen : Inside F → Part
-  seen a = part_of a.stake a.start a.cells.items (dues a.start a.cells.items a.fresh)
+  seen a = part_of a.stake a.start a.cells.items (dues a.fresh)
 
   -- the boards with this cell for that of the board of this rank, and with what is kept of the fresh ones
   abbrev pub with_cell : Inside F → ℕ → Cell → F → Inside F
@@ -31,7 +31,7 @@ module _ {F : Type 0} (dues : ℕ → List Cell → F → List Due) (right : ℕ
 
   module _ (a : Inside F) (sound : IsBoards dues right a) (part : Part) (view : seen a ≡ part) (rank : ℕ) (old new : Cell) (can_here : CanPut part rank new) (was : cell_in a.start a.cells.items rank ≡ old) where
     abbrev fresh : List Due
-    fresh = dues a.start a.cells.items a.fresh
+    fresh = dues a.fresh
 
     abbrev after : List Cell
     after = set a.cells.items (rank - a.start) new
@@ -42,7 +42,7 @@ module _ {F : Type 0} (dues : ℕ → List Cell → F → List Due) (right : ℕ
     keep : KeepFresh a.start a.cells.items after fresh
     keep = put_keeps a.stake a.start a.cells.items fresh rank new can.held.0 can.held.1 sound.block can.steps.keeps
 
-    still : (rest : F) → right a.stake.wave a.start after rest → Settles (seen a) (seen (with_cell a rank new rest)) → IsBlock a.stake a.start after (dues a.start after rest) → IsBoards dues right (with_cell a rank new rest)
+    still : (rest : F) → right a.start after rest → Settles (seen a) (seen (with_cell a rank new rest)) → IsBlock a.stake a.start after (dues rest) → IsBoards dues right (with_cell a rank new rest)
     still rest is_right settles block = record {
       low = sound.low;
       opened = sound.opened;
@@ -60,12 +60,11 @@ module _ {F : Type 0} (dues : ℕ → List Cell → F → List Due) (right : ℕ
       unset_here : is_settled (cell_in a.start a.cells.items rank).mark ≡ false
       unset_here = ap (λ (c : Cell). is_settled c.mark) was ∙ unset
 
-      pub put_new : IsNewTo dues right a.stake.wave a.start a.cells.items a.fresh rank (rank - a.start) new
+      pub put_new : CanJoin dues right a.start a.cells.items a.fresh rank new
       put_new = record {
+        low = can.held.0;
         inside = can.held.1;
-        at = let low = can.held.0 in omega (arith, low);
         right = sound.right;
-        new = none (is_settled_in a.start a.cells.items rank) (sound.block.settled rank) (is_settled_in-here a.start a.cells.items rank can.held.0 ∙ unset_here);
         room = let count = sound.count in let some = some_unsettled a.cells.items (rank - a.start) can.held.1 unset_here in omega (arith, count, some);
         others = keep;
         valued = λ zero. let one = sound.opened in elim ((can.steps.timely unset_here settled).0) [
@@ -73,49 +72,32 @@ module _ {F : Type 0} (dues : ℕ → List Cell → F → List Due) (right : ℕ
           | inr lost ↦ omega (arith, ints, zero, lost, one)
         ];
       }
-        where
-          none : (b : Bool) → times_due fresh rank ≤ (if b then 1 else 0) → b ≡ false → times_due fresh rank ≡ 0
-          none true most unset = absurd (false≢true (sym unset))
-          none false most unset = omega (arith, most)
 
-      module _ (rest : F) (has : IsNewTo dues right a.stake.wave a.start a.cells.items a.fresh rank (rank - a.start) new → HasJoined dues right a.stake.wave a.start a.cells.items a.fresh rest rank (rank - a.start) new) where
-        pub joined_boards : IsBoards dues right (with_cell a rank new rest)
-        joined_boards =
-            let joins = (has put_new).joins in
-            still rest (has put_new).right (joined_settles a.stake a.start a.cells.items fresh sound.block rank new can settled unset_here (dues a.start after rest) joins)
-            (joined_block a.stake a.start a.cells.items fresh sound.block rank new can settled unset_here (dues a.start after rest) joins)
+      module _ (rest : F) (joins : IsPermutation ((new.dist, rank) ∷ fresh) (dues rest)) where
+        pub joined_boards : (CanJoin dues right a.start a.cells.items a.fresh rank new → right a.start after rest) → IsBoards dues right (with_cell a rank new rest)
+        joined_boards is_right =
+            still rest (is_right put_new) (joined_settles a.stake a.start a.cells.items fresh sound.block rank new can settled unset_here (dues rest) joins)
+            (joined_block a.stake a.start a.cells.items fresh sound.block rank new can settled unset_here (dues rest) joins)
 
         pub joined_seen : Settles part (seen (with_cell a rank new rest))
-        joined_seen = subst (λ (o : Part). Settles o (seen (with_cell a rank new rest))) view (joined_settles a.stake a.start a.cells.items fresh sound.block rank new can settled unset_here (dues a.start after rest) (has put_new).joins)
+        joined_seen = subst (λ (o : Part). Settles o (seen (with_cell a rank new rest))) view (joined_settles a.stake a.start a.cells.items fresh sound.block rank new can settled unset_here (dues rest) joins)
 
-        pub joined_fresh : Joins (stored_at part rank) new rank part.fresh (dues a.start after rest)
-        joined_fresh = subst (λ (o : Part). Joins (stored_at o rank) new rank o.fresh (dues a.start after rest)) view (joined a.stake a.start a.cells.items fresh sound.block rank new can settled unset_here (dues a.start after rest) (has put_new).joins)
+        pub joined_fresh : Joins (stored_at part rank) new rank part.fresh (dues rest)
+        joined_fresh = subst (λ (o : Part). Joins (stored_at o rank) new rank o.fresh (dues rest)) view (joined a.stake a.start a.cells.items fresh sound.block rank new can settled unset_here (dues rest) joins)
 
     -- and one that it does not
-    module _ (stays : (wave start : ℕ) (cells after : List Cell) (f : F) → KeepFresh start cells after (dues start cells f) → right wave start cells f → right wave start after f)
-        (keeps : (wave start : ℕ) (cells after : List Cell) (f : F) → KeepFresh start cells after (dues start cells f) → right wave start cells f → dues start after f ≡ dues start cells f)
-        (back : is_settled new.mark ≡ true → is_settled old.mark ≡ true) where
+    module _ (stays : (start : ℕ) (cells after : List Cell) (f : F) → KeepFresh start cells after (dues f) → right start cells f → right start after f) (back : is_settled new.mark ≡ true → is_settled old.mark ≡ true) where
       back_here : is_settled new.mark ≡ true → is_settled (cell_in a.start a.cells.items rank).mark ≡ true
       back_here settled = ap (λ (c : Cell). is_settled c.mark) was ∙ back settled
 
-      same_fresh : dues a.start after a.fresh ≡ fresh
-      same_fresh = keeps a.stake.wave a.start a.cells.items after a.fresh keep sound.right
-
-      pub still_fresh : dues a.start after a.fresh ≡ part.fresh
-      still_fresh = same_fresh ∙ ap (λ (o : Part). o.fresh) view
-
       kept_at : Settles (seen a) (seen (with_cell a rank new a.fresh))
-      kept_at = subst (λ (l : List Due). Settles (seen a) (part_of a.stake a.start after l)) (sym same_fresh) (kept_settles a.stake a.start a.cells.items fresh sound.block rank new can back_here)
+      kept_at = kept_settles a.stake a.start a.cells.items fresh sound.block rank new can back_here
 
       pub kept_boards : IsBoards dues right (with_cell a rank new a.fresh)
-      kept_boards =
-          still a.fresh (stays a.stake.wave a.start a.cells.items after a.fresh keep sound.right) kept_at
-          (subst (IsBlock a.stake a.start after) (sym same_fresh) (kept_block a.stake a.start a.cells.items fresh sound.block rank new can back_here))
+      kept_boards = still a.fresh (stays a.start a.cells.items after a.fresh keep sound.right) kept_at (kept_block a.stake a.start a.cells.items fresh sound.block rank new can back_here)
 
       pub kept_seen : Settles part (seen (with_cell a rank new a.fresh))
       kept_seen = subst (λ (o : Part). Settles o (seen (with_cell a rank new a.fresh))) view kept_at
 
-      pub kept_fresh : Joins (stored_at part rank) new rank part.fresh (dues a.start after a.fresh)
-      kept_fresh =
-          subst (λ (o : Part). Joins (stored_at o rank) new rank o.fresh (dues a.start after a.fresh)) view
-          (subst (Joins (cell_in a.start a.cells.items rank) new rank fresh) (sym same_fresh) (kept a.stake a.start a.cells.items fresh sound.block rank new can back_here))
+      pub kept_fresh : Joins (stored_at part rank) new rank part.fresh (dues a.fresh)
+      kept_fresh = subst (λ (o : Part). Joins (stored_at o rank) new rank o.fresh (dues a.fresh)) view (kept a.stake a.start a.cells.items fresh sound.block rank new can back_here)

@@ -1,7 +1,6 @@
--- How the fresh boards of a block are kept: what a set of them says, given where the block begins and its cells.
-use Rattle.std.specs.Prelude.{◌≡◌, ◌≢◌, ℕ, ◌+◌, ◌<◌, ◌≤◌, List, ◌∷◌, length, All, pos, slice_set}
-use Rattle.std.specs.List.Sorted.{IsPermutation}
-use Rattle.awari_block.specs.Blocks.{Due, cell_in, due_dist, due_rank, times_due, IsBlock}
+-- How the fresh boards of a block are kept.
+use Rattle.std.specs.Prelude.{◌≡◌, ◌≢◌, ℕ, ◌-◌, ◌<◌, ◌≤◌, List, length, All, pos, slice_set}
+use Rattle.awari_block.specs.Blocks.{Due, cell_in, due_rank, IsBlock}
 use Rattle.awari_block.specs.Boards.{GivesFresh}
 use Rattle.awari_block.specs.Part.{part_of}
 use Rattle.awari_block.specs.declared.cells.Cell.{Cell}
@@ -14,28 +13,16 @@ pub record KeepFresh (start : ℕ) (cells after : List Cell) (fresh : List Due) 
   pub same : All (λ f. ((cell_in start after (due_rank f)).score ≡ (cell_in start cells (due_rank f)).score) × ((cell_in start after (due_rank f)).dist ≡ (cell_in start cells (due_rank f)).dist)) fresh
 
 -- A block of these cells may get this one for that of a board that is not among the fresh ones, and settle it.
-pub record IsNewTo {F : Type 0} (dues : ℕ → List Cell → F → List Due) (is_right : ℕ → ℕ → List Cell → F → Type 0) (wave start : ℕ) (cells : List Cell) (fresh : F) (rank index : ℕ) (cell : Cell) : Type 0 where
-  pub inside : index < length cells
-  pub at : start + index ≡ rank
-  pub right : is_right wave start cells fresh
-  pub new : times_due (dues start cells fresh) rank ≡ 0
-  pub room : length (dues start cells fresh) < length cells
-  pub others : KeepFresh start cells (slice_set cells index cell) (dues start cells fresh)
+pub record CanJoin {F : Type 0} (dues : F → List Due) (is_right : ℕ → List Cell → F → Type 0) (start : ℕ) (cells : List Cell) (fresh : F) (rank : ℕ) (cell : Cell) : Type 0 where
+  pub low : start ≤ rank
+  pub inside : rank - start < length cells
+  pub right : is_right start cells fresh
+  pub room : length (dues fresh) < length cells
+  pub others : KeepFresh start cells (slice_set cells (rank - start) cell) (dues fresh)
   pub valued : cell.score ≢ pos 0
 
--- the board is one of them then
-pub record HasJoined {F : Type 0} (dues : ℕ → List Cell → F → List Due) (is_right : ℕ → ℕ → List Cell → F → Type 0) (wave start : ℕ) (cells : List Cell) (old new : F) (rank index : ℕ) (cell : Cell) : Type 0 where
-  pub right : is_right wave start (slice_set cells index cell) new
-  pub joins : IsPermutation ((cell.dist, rank) ∷ dues start cells old) (dues start (slice_set cells index cell) new)
-
--- a wave may be opened that none of them comes before
-pub record CanOpenAt {F : Type 0} (dues : ℕ → List Cell → F → List Due) (is_right : ℕ → ℕ → List Cell → F → Type 0) (from wave start : ℕ) (cells : List Cell) (fresh : F) : Type 0 where
-  pub farther : from < wave
-  pub nearest : All (λ f. wave ≤ due_dist f) (dues start cells fresh)
-  pub right : is_right from start cells fresh
-
--- such boards of a wave and a kind are given away
-abbrev pub GivesAway : {F : Type 0} → (ℕ → List Cell → F → List Due) → (ℕ → ℕ → List Cell → F → Type 0) → Kind → ℕ → F → F → List ℕ → Type 0
+-- boards of a wave and a kind are given away
+abbrev pub GivesAway : {F : Type 0} → (F → List Due) → (ℕ → List Cell → F → Type 0) → Kind → ℕ → F → F → List ℕ → Type 0
 GivesAway dues is_right kind wave old new given =
-    (stake : Stake) (start : ℕ) (cells : List Cell) → stake.wave ≡ wave → IsBlock stake start cells (dues start cells old) → is_right wave start cells old
-    → GivesFresh kind (part_of stake start cells (dues start cells old)) (part_of stake start cells (dues start cells new)) given × is_right wave start cells new
+    (stake : Stake) (start : ℕ) (cells : List Cell) → stake.wave ≡ wave → IsBlock stake start cells (dues old) → is_right start cells old
+    → GivesFresh kind (part_of stake start cells (dues old)) (part_of stake start cells (dues new)) given × is_right start cells new

@@ -41,7 +41,7 @@ impl<F: FreshSet> Model for Boards<F> {
 
     ghost use Rattle.awari_block.specs.BoardsFields.{IsBoards};
 
-    ghost view = { λ a. part_of a.stake a.start a.cells.items (F.dues a.start a.cells.items a.fresh) };
+    ghost view = { λ a. part_of a.stake a.start a.cells.items (F.dues a.fresh) };
 
     ghost invariant = { IsBoards F.dues F.right };
 }
@@ -136,7 +136,7 @@ impl<F: FreshSet> Boards<F> {
 
     /// The fresh ones, as they are kept.
     pub fn fresh(&self) -> &F
-        ensures dues { F.dues self.now.start self.now.cells result.now ≡ self.now.fresh }
+        ensures dues { F.dues result.now ≡ self.now.fresh }
         ensures fresh { AreFresh self.now }
     {
         &self.fresh
@@ -209,7 +209,6 @@ impl<F: FreshSet> Boards<F> {
         ensures fresh { OnOk result (AreFresh self.new) }
         ensures lacks { OnErr result F.lacks }
     {
-        F::depend_on_their_cells();
         self.stake = Stake {
             gain,
             wave: 0,
@@ -225,7 +224,6 @@ impl<F: FreshSet> Boards<F> {
         ensures wave { self.new ≡ record self.old { wave = dist } }
         ensures fresh { AreFresh self.new }
     {
-        self.fresh.open_wave(dist, self.cells.as_slice());
         self.stake = Stake {
             wave: dist,
             ..self.stake
@@ -306,7 +304,7 @@ impl<F: FreshSet> Boards<F> {
             self.cells[index as usize] = cell;
             return Ok(());
         }
-        self.fresh.insert(self.stake.wave, rank, index, cell)?;
+        self.fresh.insert(rank, cell)?;
         self.cells[index as usize] = cell;
         Ok(())
     }

@@ -21,9 +21,9 @@ pub struct InOrder {
 impl FreshSet for InOrder {
     ghost use Rattle.awari_block.specs.FreshHeap.{IsInOrder, fresh_of};
 
-    ghost dues = { λ start cells fresh. fresh_of fresh };
+    ghost dues = { fresh_of };
 
-    ghost right = { λ wave start cells fresh. IsInOrder cells fresh };
+    ghost right = { λ start cells fresh. IsInOrder cells fresh };
 
     ghost lacks = { ⊥ };
 
@@ -34,12 +34,10 @@ impl FreshSet for InOrder {
     }
 
     /// There is room for each board, so it takes no memory.
-    fn insert(&mut self, _wave: u32, rank: u32, _index: u32, cell: Cell) -> Result<(), AllocError> {
+    fn insert(&mut self, rank: u32, cell: Cell) -> Result<(), AllocError> {
         self.heap.push(Reverse((cell.dist, rank)))?;
         Ok(())
     }
-
-    fn open_wave(&mut self, _wave: u32, _cells: &[Cell]) {}
 
     fn depend_on_their_cells() {}
 }

@@ -142,33 +142,33 @@ above_is gain s (inr down) high = absurd (omega (arith, ints, down, high))
 
 -- ---- the lists of a kind are given away
 
-module _ (wave : ℕ) (fresh : ByDistance) (stake : Stake) (start : ℕ) (cells : List Cell) (at : stake.wave ≡ wave) (sound : IsBlock stake start cells (listed_of start cells fresh)) (signed : AreSigned start cells fresh) where
+module _ (wave : ℕ) (fresh : ByDistance) (stake : Stake) (start : ℕ) (cells : List Cell) (at : stake.wave ≡ wave) (sound : IsBlock stake start cells (listed_of fresh)) (signed : AreSigned start cells fresh) where
   pub lost_given : (lost : List (List ℕ)) → lost ≡ without fresh.lost wave
-      → GivesFresh Lost (part_of stake start cells (listed_of start cells fresh)) (part_of stake start cells (dues_of lost ++ dues_of fresh.won)) (list_at fresh.lost wave) × AreSigned start cells (record { lost = lost; won = fresh.won })
+      → GivesFresh Lost (part_of stake start cells (listed_of fresh)) (part_of stake start cells (dues_of lost ++ dues_of fresh.won)) (list_at fresh.lost wave) × AreSigned start cells (record { lost = lost; won = fresh.won })
   lost_given lost is =
-      subst (λ (ls : List (List ℕ)). GivesFresh Lost (part_of stake start cells (listed_of start cells fresh)) (part_of stake start cells (dues_of ls ++ dues_of fresh.won)) (list_at fresh.lost wave) × AreSigned start cells (record { lost = ls; won = fresh.won })) (sym is)
-      (subst (λ w. GivesFresh Lost (part_of stake start cells (listed_of start cells fresh)) (part_of stake start cells (dues_of (without fresh.lost w) ++ dues_of fresh.won)) (list_at fresh.lost w) × AreSigned start cells (record { lost = without fresh.lost w; won = fresh.won })) at
+      subst (λ (ls : List (List ℕ)). GivesFresh Lost (part_of stake start cells (listed_of fresh)) (part_of stake start cells (dues_of ls ++ dues_of fresh.won)) (list_at fresh.lost wave) × AreSigned start cells (record { lost = ls; won = fresh.won })) (sym is)
+      (subst (λ w. GivesFresh Lost (part_of stake start cells (listed_of fresh)) (part_of stake start cells (dues_of (without fresh.lost w) ++ dues_of fresh.won)) (list_at fresh.lost w) × AreSigned start cells (record { lost = without fresh.lost w; won = fresh.won })) at
       (away.gives, record { lost = away.scores; won = signed.won }))
     where
       stay : List Due
       stay = dues_of (without fresh.lost stake.wave)
 
-      away : IsGiven Lost IsBelowZero start cells stake (listed_of start cells fresh) (stay ++ dues_of fresh.won) (list_at fresh.lost stake.wave) stay
-      away = given_away stake start cells (listed_of start cells fresh) sound Lost IsBelowZero IsAboveZero (below_is stake.gain) (above_is stake.gain) fresh.lost fresh.won (stay ++ dues_of fresh.won)
-          (IsPermutation-refl (listed_of start cells fresh)) (IsPermutation-refl (stay ++ dues_of fresh.won)) signed.lost signed.won
+      away : IsGiven Lost IsBelowZero start cells stake (listed_of fresh) (stay ++ dues_of fresh.won) (list_at fresh.lost stake.wave) stay
+      away = given_away stake start cells (listed_of fresh) sound Lost IsBelowZero IsAboveZero (below_is stake.gain) (above_is stake.gain) fresh.lost fresh.won (stay ++ dues_of fresh.won)
+          (IsPermutation-refl (listed_of fresh)) (IsPermutation-refl (stay ++ dues_of fresh.won)) signed.lost signed.won
 
   pub won_given : (won : List (List ℕ)) → won ≡ without fresh.won wave
-      → GivesFresh Won (part_of stake start cells (listed_of start cells fresh)) (part_of stake start cells (dues_of fresh.lost ++ dues_of won)) (list_at fresh.won wave) × AreSigned start cells (record { lost = fresh.lost; won = won })
+      → GivesFresh Won (part_of stake start cells (listed_of fresh)) (part_of stake start cells (dues_of fresh.lost ++ dues_of won)) (list_at fresh.won wave) × AreSigned start cells (record { lost = fresh.lost; won = won })
   won_given won is =
-      subst (λ (ls : List (List ℕ)). GivesFresh Won (part_of stake start cells (listed_of start cells fresh)) (part_of stake start cells (dues_of fresh.lost ++ dues_of ls)) (list_at fresh.won wave) × AreSigned start cells (record { lost = fresh.lost; won = ls })) (sym is)
-      (subst (λ w. GivesFresh Won (part_of stake start cells (listed_of start cells fresh)) (part_of stake start cells (dues_of fresh.lost ++ dues_of (without fresh.won w))) (list_at fresh.won w) × AreSigned start cells (record { lost = fresh.lost; won = without fresh.won w })) at
+      subst (λ (ls : List (List ℕ)). GivesFresh Won (part_of stake start cells (listed_of fresh)) (part_of stake start cells (dues_of fresh.lost ++ dues_of ls)) (list_at fresh.won wave) × AreSigned start cells (record { lost = fresh.lost; won = ls })) (sym is)
+      (subst (λ w. GivesFresh Won (part_of stake start cells (listed_of fresh)) (part_of stake start cells (dues_of fresh.lost ++ dues_of (without fresh.won w))) (list_at fresh.won w) × AreSigned start cells (record { lost = fresh.lost; won = without fresh.won w })) at
       (away.gives, record { lost = signed.lost; won = away.scores }))
     where
       stay : List Due
       stay = dues_of (without fresh.won stake.wave)
 
-      away : IsGiven Won IsAboveZero start cells stake (listed_of start cells fresh) (dues_of fresh.lost ++ stay) (list_at fresh.won stake.wave) stay
-      away = given_away stake start cells (listed_of start cells fresh) sound Won IsAboveZero IsBelowZero (above_is stake.gain) (below_is stake.gain) fresh.won fresh.lost (dues_of fresh.lost ++ stay)
+      away : IsGiven Won IsAboveZero start cells stake (listed_of fresh) (dues_of fresh.lost ++ stay) (list_at fresh.won stake.wave) stay
+      away = given_away stake start cells (listed_of fresh) sound Won IsAboveZero IsBelowZero (above_is stake.gain) (below_is stake.gain) fresh.won fresh.lost (dues_of fresh.lost ++ stay)
           (IsPermutation-append_comm (dues_of fresh.won) (dues_of fresh.lost)) (IsPermutation-append_comm stay (dues_of fresh.lost)) signed.won signed.lost
 
 -- what is said of a kind

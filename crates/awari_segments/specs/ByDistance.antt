@@ -15,9 +15,9 @@ IsBelowZero v = v <ℤ pos 0
 abbrev pub IsAboveZero : ℤ → Type 0
 IsAboveZero v = pos 0 <ℤ v
 
--- all boards of the lists, whatever the cells say
-abbrev pub listed_of : ℕ → List Cell → ByDistance → List Due
-listed_of start cells fresh = dues_of fresh.lost ++ dues_of fresh.won
+-- all boards of the lists
+abbrev pub listed_of : ByDistance → List Due
+listed_of fresh = dues_of fresh.lost ++ dues_of fresh.won
 
 -- the lists have their boards by sign
 pub record AreSigned (start : ℕ) (cells : List Cell) (fresh : ByDistance) : Type 0 where

@@ -18,7 +18,7 @@ impl FreshSet for ByDistance {
 
     ghost dues = { listed_of };
 
-    ghost right = { λ wave start cells fresh. AreSigned start cells fresh };
+    ghost right = { AreSigned };
 
     ghost lacks = { ⊤ };
 
@@ -31,7 +31,7 @@ impl FreshSet for ByDistance {
     }
 
     #[inline(always)]
-    fn insert(&mut self, _wave: u32, rank: u32, _index: u32, cell: Cell) -> Result<(), AllocError> {
+    fn insert(&mut self, rank: u32, cell: Cell) -> Result<(), AllocError> {
         if cell.score < 0 {
             self.lost.put(cell.dist, rank)?;
             return Ok(());
@@ -39,8 +39,6 @@ impl FreshSet for ByDistance {
         self.won.put(cell.dist, rank)?;
         Ok(())
     }
-
-    fn open_wave(&mut self, _wave: u32, _cells: &[Cell]) {}
 
     fn depend_on_their_cells() {}
 }

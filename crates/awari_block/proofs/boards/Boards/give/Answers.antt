@@ -27,7 +27,7 @@ invariant_of-self-2 g c =
 pub returns-clause-given : goal.returns-clause-given
 returns-clause-given g c =
     let away = c.in_ok-count.ensures.given.3 c.self.inside.stake c.self.inside.start c.self.inside.cells.items refl c.self.invariant.block c.self.invariant.right in
-    (c.in_ok-count.ensures.given.0, c.in_ok-count.ensures.given.1, subst (λ (o : Part). GivesFresh c.args.kind o (part_of c.self.inside.stake c.self.inside.start c.self.inside.cells.items (g.F.FreshSet.dues c.self.inside.start c.self.inside.cells.items c.give.new.self)) c.in_ok-count.ensures.given.0) c.self.view_is away.0)
+    (c.in_ok-count.ensures.given.0, c.in_ok-count.ensures.given.1, subst (λ (o : Part). GivesFresh c.args.kind o (part_of c.self.inside.stake c.self.inside.start c.self.inside.cells.items (g.F.FreshSet.dues c.give.new.self)) c.in_ok-count.ensures.given.0) c.self.view_is away.0)
 
 pub returns-clause-fresh : goal.returns-clause-fresh
 returns-clause-fresh g c = subst AreFresh c.self.view_is (fresh_of_block c.self.inside.stake c.self.inside.start c.self.inside.cells.items _ c.self.invariant.block)

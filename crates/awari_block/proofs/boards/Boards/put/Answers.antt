@@ -13,13 +13,13 @@ back g c settled = elim c.then-not-is_settled.either [
 ]
 
 pub invariant_of-self : goal.invariant_of-self
-invariant_of-self g c = kept_boards g.F.FreshSet.dues g.F.FreshSet.right c.self.inside c.self.invariant c.args.self.now c.self.view_is c.args.rank c.index.result.now c.args.cell c.requires (cell_read g.F.FreshSet.dues g.F.FreshSet.right c.self.inside c.args.self.now c.args.rank c.index.result.now c.args.cell c.self.view_is c.requires c.index.ensures) c.depend_on_their_cells.ensures.right c.depend_on_their_cells.ensures.same (back g c)
+invariant_of-self g c = kept_boards g.F.FreshSet.dues g.F.FreshSet.right c.self.inside c.self.invariant c.args.self.now c.self.view_is c.args.rank c.index.result.now c.args.cell c.requires (cell_read g.F.FreshSet.dues g.F.FreshSet.right c.self.inside c.args.self.now c.args.rank c.index.result.now c.args.cell c.self.view_is c.requires c.index.ensures) c.depend_on_their_cells.ensures (back g c)
 
 pub returns-then-not-is_settled-clause-settles : goal.returns-then-not-is_settled-clause-settles
-returns-then-not-is_settled-clause-settles g c = kept_seen g.F.FreshSet.dues g.F.FreshSet.right c.self.inside c.self.invariant c.args.self.now c.self.view_is c.args.rank c.index.result.now c.args.cell c.requires (cell_read g.F.FreshSet.dues g.F.FreshSet.right c.self.inside c.args.self.now c.args.rank c.index.result.now c.args.cell c.self.view_is c.requires c.index.ensures) c.depend_on_their_cells.ensures.right c.depend_on_their_cells.ensures.same (back g c)
+returns-then-not-is_settled-clause-settles g c = kept_seen g.F.FreshSet.dues g.F.FreshSet.right c.self.inside c.self.invariant c.args.self.now c.self.view_is c.args.rank c.index.result.now c.args.cell c.requires (cell_read g.F.FreshSet.dues g.F.FreshSet.right c.self.inside c.args.self.now c.args.rank c.index.result.now c.args.cell c.self.view_is c.requires c.index.ensures) c.depend_on_their_cells.ensures (back g c)
 
 pub returns-then-not-is_settled-clause-joins : goal.returns-then-not-is_settled-clause-joins
-returns-then-not-is_settled-clause-joins g c = kept_fresh g.F.FreshSet.dues g.F.FreshSet.right c.self.inside c.self.invariant c.args.self.now c.self.view_is c.args.rank c.index.result.now c.args.cell c.requires (cell_read g.F.FreshSet.dues g.F.FreshSet.right c.self.inside c.args.self.now c.args.rank c.index.result.now c.args.cell c.self.view_is c.requires c.index.ensures) c.depend_on_their_cells.ensures.right c.depend_on_their_cells.ensures.same (back g c)
+returns-then-not-is_settled-clause-joins g c = kept_fresh g.F.FreshSet.dues g.F.FreshSet.right c.self.inside c.self.invariant c.args.self.now c.self.view_is c.args.rank c.index.result.now c.args.cell c.requires (cell_read g.F.FreshSet.dues g.F.FreshSet.right c.self.inside c.args.self.now c.args.rank c.index.result.now c.args.cell c.self.view_is c.requires c.index.ensures) c.depend_on_their_cells.ensures (back g c)
 
 pub insert-requires : goal.insert-requires
 insert-requires g c =
@@ -31,16 +31,16 @@ pub invariant_of-self-2 : goal.invariant_of-self-2
 invariant_of-self-2 g c =
     let settled : is_settled c.args.cell.mark ≡ true = search rules in
     let unset : is_settled c.index.result.now.mark ≡ false = search rules in
-    joined_boards g.F.FreshSet.dues g.F.FreshSet.right c.self.inside c.self.invariant c.args.self.now c.self.view_is c.args.rank c.index.result.now c.args.cell c.requires (cell_read g.F.FreshSet.dues g.F.FreshSet.right c.self.inside c.args.self.now c.args.rank c.index.result.now c.args.cell c.self.view_is c.requires c.index.ensures) settled unset c.insert.new.self (c.in_ok-insert.ensures.joined c.self.inside.start c.self.inside.cells.items)
+    joined_boards g.F.FreshSet.dues g.F.FreshSet.right c.self.inside c.self.invariant c.args.self.now c.self.view_is c.args.rank c.index.result.now c.args.cell c.requires (cell_read g.F.FreshSet.dues g.F.FreshSet.right c.self.inside c.args.self.now c.args.rank c.index.result.now c.args.cell c.self.view_is c.requires c.index.ensures) settled unset c.insert.new.self c.in_ok-insert.ensures.joins (c.in_ok-insert.ensures.right c.self.inside.start c.self.inside.cells.items)
 
 pub returns-clause-settles : goal.returns-clause-settles
 returns-clause-settles g c =
     let settled : is_settled c.args.cell.mark ≡ true = search rules in
     let unset : is_settled c.index.result.now.mark ≡ false = search rules in
-    joined_seen g.F.FreshSet.dues g.F.FreshSet.right c.self.inside c.self.invariant c.args.self.now c.self.view_is c.args.rank c.index.result.now c.args.cell c.requires (cell_read g.F.FreshSet.dues g.F.FreshSet.right c.self.inside c.args.self.now c.args.rank c.index.result.now c.args.cell c.self.view_is c.requires c.index.ensures) settled unset c.insert.new.self (c.in_ok-insert.ensures.joined c.self.inside.start c.self.inside.cells.items)
+    joined_seen g.F.FreshSet.dues g.F.FreshSet.right c.self.inside c.self.invariant c.args.self.now c.self.view_is c.args.rank c.index.result.now c.args.cell c.requires (cell_read g.F.FreshSet.dues g.F.FreshSet.right c.self.inside c.args.self.now c.args.rank c.index.result.now c.args.cell c.self.view_is c.requires c.index.ensures) settled unset c.insert.new.self c.in_ok-insert.ensures.joins
 
 pub returns-clause-joins : goal.returns-clause-joins
 returns-clause-joins g c =
     let settled : is_settled c.args.cell.mark ≡ true = search rules in
     let unset : is_settled c.index.result.now.mark ≡ false = search rules in
-    joined_fresh g.F.FreshSet.dues g.F.FreshSet.right c.self.inside c.self.invariant c.args.self.now c.self.view_is c.args.rank c.index.result.now c.args.cell c.requires (cell_read g.F.FreshSet.dues g.F.FreshSet.right c.self.inside c.args.self.now c.args.rank c.index.result.now c.args.cell c.self.view_is c.requires c.index.ensures) settled unset c.insert.new.self (c.in_ok-insert.ensures.joined c.self.inside.start c.self.inside.cells.items)
+    joined_fresh g.F.FreshSet.dues g.F.FreshSet.right c.self.inside c.self.invariant c.args.self.now c.self.view_is c.args.rank c.index.result.now c.args.cell c.requires (cell_read g.F.FreshSet.dues g.F.FreshSet.right c.self.inside c.args.self.now c.args.rank c.index.result.now c.args.cell c.self.view_is c.requires c.index.ensures) settled unset c.insert.new.self c.in_ok-insert.ensures.joins

@@ -1,5 +1,5 @@
 use Rattle.awari_segments.proofs.Joining.{signed_stays}
 use Rattle.awari_segments.proofs.by_distance.ByDistanceFreshSet.depend_on_their_cells.Goals as goal
 
-pub returns-clause-right : goal.returns-clause-right
-returns-clause-right c = signed_stays
+pub returns : goal.returns
+returns c = signed_stays
