@@ -3,8 +3,7 @@ use Rattle.std.proofs.Common.{arith, ◌≡◌, ◌<◌, ◌≤◌, ◌+◌, inl
 use Rattle.std.specs.Prelude.{IfSome}
 use Rattle.awari_file.specs.FileText.{file_text}
 use Rattle.std.specs.Io.KnownBytes.{Appends}
-use Rattle.awari_folder.specs.Contents.{AreNames, HoldsIn, IsStoredIn, LeavesNoMore, LeavesToo, Same}
-use Rattle.awari_folder.specs.Migration.{KeepsFiles}
+use Rattle.awari_folder.specs.Contents.{AreNames, HoldsIn, IsStoredIn, LeavesNoMore, LeavesToo, Same, KeepsFiles}
 use Rattle.awari_play.specs.Least.{HasLowestPlans}
 use Rattle.awari_table.specs.Shelves.{IsShelf}
 use Rattle.awari_table.specs.declared.images.Image.{Image}

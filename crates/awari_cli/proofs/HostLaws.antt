@@ -6,8 +6,7 @@ use Rattle.awari_cli.specs.Building.{PrintsLevels}
 use Rattle.awari_cli.specs.Done.{LeavesFolders, PrintsBrought, PrintsBuilt}
 use Rattle.awari_host.specs.Hosts.{AllStay, OthersStay, Stands}
 use Rattle.awari_cli.specs.Migrating.{PrintsMigrated}
-use Rattle.awari_folder.specs.Contents.{Same}
-use Rattle.awari_folder.specs.Migration.{KeepsFiles}
+use Rattle.awari_folder.specs.Contents.{Same, KeepsFiles}
 
 -- two names are one, or they are not
 pub same_name : (a b : List ℕ) → (a ≡ b) ⊎ (a ≢ b)

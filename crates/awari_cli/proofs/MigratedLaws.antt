@@ -3,7 +3,7 @@ use Rattle.std.proofs.Common.{◌≡◌, ℕ, suc, ◌+◌, ◌<◌, List, [], �
 use Rattle.std.specs.Io.KnownBytes.{Appends}
 use Rattle.std.proofs.KnownBytes.{Appends-trans}
 use Rattle.std.proofs.lemmas.List.{take_more, length-take-le}
-use Rattle.awari_folder.specs.declared.migrating.Limits.{Limits}
+use Rattle.awari_migrate.specs.declared.migrating.Limits.{Limits}
 use Rattle.awari_cli.specs.Migrating.{migrated_line, lines_from, migrated_lines}
 
 -- one more level

@@ -9,8 +9,7 @@ use Rattle.awari_answers.specs.LevelLines.{IsToldOf, level_line, told_text}
 use Rattle.awari_answers.specs.declared.telling.LevelLine.{LevelLine}
 use Rattle.awari_answers.proofs.LevelLineLaws.{told_is}
 use Rattle.awari_file.specs.FileText.{body_text}
-use Rattle.awari_folder.specs.Contents.{AreNames, HoldsIn}
-use Rattle.awari_folder.specs.Migration.{KeepsFiles}
+use Rattle.awari_folder.specs.Contents.{AreNames, HoldsIn, KeepsFiles}
 use Rattle.awari_folder.specs.State.{IsOwnIfFree, Leaves, Saves, State}
 use Rattle.awari_play.specs.Least.{HasLowestPlans}
 use Rattle.awari_table.specs.Images.{no_image}

@@ -5,8 +5,8 @@ use Rattle.awari_answers.specs.LevelLines.{level_line, level_lines}
 use Rattle.awari_play.specs.Least.{HasLowestPlans}
 use Rattle.awari_table.specs.Shelves.{Consistent, IsShelf}
 use Rattle.awari_table.specs.declared.images.Image.{Image}
-use Rattle.awari_folder.specs.Contents.{AreNames, HoldsIn, IsStored, LeavesNoMore, Same, SameBut}
-use Rattle.awari_folder.specs.Migration.{IsWholeFile, KeepsFiles}
+use Rattle.awari_folder.specs.Contents.{AreNames, HoldsIn, IsStored, LeavesNoMore, Same, SameBut, KeepsFiles}
+use Rattle.awari_migrate.specs.Migration.{IsWholeFile}
 use Rattle.awari_folder.specs.State.{State}
 
 -- The shelf is longer by levels that were built, up to `top` at least, and their lines were written. Plans stay the lowest.

@@ -3,9 +3,9 @@ use Rattle.std.specs.Prelude.{◌≡◌, ◌⊎◌, ℕ, suc, List, ◌++◌, �
 use Rattle.std.specs.Fmt.{decimal}
 use Rattle.std.specs.Io.KnownBytes.{Appends}
 use Rattle.awari_folder.specs.Contents.{AreNames}
-use Rattle.awari_folder.specs.Migration.{IsFirstMigrationFault, IsMigrated}
+use Rattle.awari_migrate.specs.Migration.{IsFirstMigrationFault, IsMigrated}
 use Rattle.awari_folder.specs.declared.faults.FolderFault.{FolderFault}
-use Rattle.awari_folder.specs.declared.migrating.Limits.{Limits}
+use Rattle.awari_migrate.specs.declared.migrating.Limits.{Limits}
 use Rattle.awari_answers.specs.LevelLines.{summary_text}
 use Rattle.awari_answers.specs.declared.telling.Summary.{Summary}
 use Rattle.awari_cli.specs.declared.migrating.MigratedLevel.{MigratedLevel}

@@ -5,8 +5,7 @@ ghost use Rattle.std.specs.Arc.{arc_value};
 ghost use Rattle.awari_table.specs.declared.images.Image.{Image};
 ghost use Rattle.awari_play.specs.Least.{HasLowestPlans, IsPlannedLowest};
 ghost use Rattle.awari_table.specs.Shelves.{Consistent};
-ghost use Rattle.awari_folder.specs.Contents.{AreNames, HoldsIn, Same};
-ghost use Rattle.awari_folder.specs.Migration.{KeepsFiles};
+ghost use Rattle.awari_folder.specs.Contents.{AreNames, HoldsIn, Same, KeepsFiles};
 ghost use Rattle.awari_answers.specs.LevelLines.{IsToldOf};
 ghost use Rattle.awari_cli.specs.Building.{AddsFile, BuildsTo, KeepsLevels, LeavesFiles, PrintsAllLevels, PrintsLevels, SameOutside, SavesLevel, SavesTop};
 

@@ -3,11 +3,12 @@
 ghost use Rattle.std.specs.Prelude.{◌≡◌, ◌≤◌, true};
 ghost use Rattle.std.specs.Io.KnownBytes.{Appends};
 ghost use Rattle.awari_folder.specs.State.{Unchanged};
-ghost use Rattle.awari_folder.specs.Migration.{KeepsFiles};
+ghost use Rattle.awari_folder.specs.Contents.{KeepsFiles};
 ghost use Rattle.awari_cli.specs.Migrating.{LeavesMigrated, PrintsMigrated, migrated_lines};
 
 use awari_answers::{Replies, Summary, print, refuse, status_of};
-use awari_folder::{Folder, Limits, migrate};
+use awari_folder::Folder;
+use awari_migrate::{Limits, migrate};
 use std::alloc::Global;
 use std::fmt;
 use std::io::Write;

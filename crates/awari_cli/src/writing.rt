@@ -5,8 +5,7 @@ ghost use Rattle.std.specs.Io.KnownBytes.{Keeps};
 ghost use Rattle.awari_cli.specs.Building.{KeepsLevels, PrintsAllLevels, PrintsLevels};
 ghost use Rattle.awari_cli.specs.Done.{IsFolder, LeavesFolders, PrintsBrought, PrintsBuild, PrintsBuilt};
 ghost use Rattle.awari_host.specs.Hosts.{AllStay, OthersStay};
-ghost use Rattle.awari_folder.specs.Contents.{AreNames, Same};
-ghost use Rattle.awari_folder.specs.Migration.{KeepsFiles};
+ghost use Rattle.awari_folder.specs.Contents.{AreNames, Same, KeepsFiles};
 
 use crate::building::{Builder, build_up_in, run_build};
 use crate::estimates::{Estimate, warn_of_memory};

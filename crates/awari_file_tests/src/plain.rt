@@ -5,9 +5,8 @@
 use crate::memory::MemoryFolder;
 use awari_board::Board;
 use awari_file::{FileFault, Loaded, compare_level, read_image, write_level};
-use awari_folder::{
-    Alone, Folder, FolderFault, Migrated, Stored, load, migrate, save, save_or_keep,
-};
+use awari_folder::{Alone, Folder, FolderFault, Stored, load, save, save_or_keep};
+use awari_migrate::{Migrated, migrate};
 use awari_places::{
     Run, best_line, entry, entry_in_run, limit_in_header, longest_line, open_levels,
 };

@@ -2,7 +2,6 @@ pub mod Empty
 pub mod Written
 pub mod Opened
 pub mod Saved
-pub mod Migrations
 pub mod Kept
 pub mod Placing
 pub mod States

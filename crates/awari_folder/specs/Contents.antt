@@ -18,6 +18,10 @@ Same old new = (n : ℕ) → new n ≡ old n
 abbrev pub SameBut : {A : Type 0} → ℕ → (ℕ → A) → (ℕ → A) → Type 0
 SameBut level old new = (n : ℕ) → n ≢ level → new n ≡ old n
 
+-- Each name that had a file has that file.
+abbrev pub KeepsFiles : (ℕ → Option (Option (List ℕ))) → (ℕ → Option (Option (List ℕ))) → Type 0
+KeepsFiles old new = (n : ℕ) (bytes : List ℕ) → old n ≡ Some (Some bytes) → new n ≡ Some (Some bytes)
+
 -- What holds of levels holds of them still.
 abbrev pub Stays : (ℕ → Type 0) → (ℕ → Type 0) → Type 0
 Stays old new = (n : ℕ) → old n → new n

@@ -1,6 +1,5 @@
 pub mod FolderFault
 pub mod NextFile
-pub mod Migration
 pub mod Verifying
 pub mod Contents
 pub mod Host

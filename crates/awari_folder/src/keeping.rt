@@ -4,8 +4,8 @@ ghost use Rattle.std.specs.Prelude.{◌≡◌, Some, IfOk, IfErr, IfSome, OnOk};
 ghost use Rattle.awari_streams.specs.Counted.{faults_of, inner_of};
 ghost use Rattle.awari_file.specs.FileText.{file_text};
 ghost use Rattle.awari_folder.specs.FolderFault.{Names};
+ghost use Rattle.awari_folder.specs.Contents.{KeepsFiles};
 ghost use Rattle.awari_folder.specs.Keeping.{IsComparedFault, IsFreeFor, IsKeepFault};
-ghost use Rattle.awari_folder.specs.Migration.{KeepsFiles};
 ghost use Rattle.awari_folder.specs.State.{IsOwnDigest, IsOwnIfFree, Outcome};
 
 use crate::calls::{Folder, Refusal};

@@ -1,9 +1,8 @@
 //! A folder with the files of levels.
 //!
 //! [`load`] makes a shelf of the files, and verifies each level. [`save`] gives a level its file, whole
-//! or not at all, at whatever moment the machine stops. [`migrate`] brings the levels of older files
-//! over to another folder. A [`Folder`] is a trait, and [`HostFolder`] is one on disk. The tests have
-//! one in memory.
+//! or not at all, at whatever moment the machine stops. A [`Folder`] is a trait, and [`HostFolder`] is
+//! one on disk. The tests have one in memory.
 //!
 //! Level 0 is saved and loaded again, in `crates/awari_file_tests/src/examples.rt`:
 //!
@@ -26,7 +25,6 @@ mod host;
 mod keeping;
 mod laws;
 mod loading;
-mod migrating;
 mod names;
 mod saving;
 mod verifiers;
@@ -37,8 +35,7 @@ pub use faults::FolderFault;
 pub use host::{HostDraft, HostFile, HostFolder, LockFault};
 pub use keeping::save_or_keep;
 pub use laws::{folders_hold_one_shelf, stored_shelves_are_loaded};
-pub use loading::{Stored, load};
-pub use migrating::{Limits, Migrated, migrate};
+pub use loading::{Stored, load, place};
 pub use saving::save;
 pub use verifiers::{Alone, Together, Verifier};
 pub use words::{Named, Said};

@@ -114,12 +114,7 @@ impl Stored {
 /// Refuses a file that is not to be this level's, whatever its level is: one of a version before `oldest` as
 /// 86, and one over another file than the one that ends in `below` as 80. If it is not sealed by its digest, that
 /// is told as 81.
-pub(crate) fn place(
-    file: &Unsealed,
-    level: u8,
-    oldest: u16,
-    below: &[u8; 32],
-) -> Result<(), FolderFault>
+pub fn place(file: &Unsealed, level: u8, oldest: u16, below: &[u8; 32]) -> Result<(), FolderFault>
     requires low { file.now.loaded.image.level ≤ HIGHEST_LEVEL }
     ensures ok { OnOk result ((oldest ≤ file.now.loaded.version) × (file.now.loaded.below ≡ below.now)) }
     ensures misplaced { IfErr result (IsMisplaced level oldest below.now file.now) }

@@ -7,16 +7,13 @@ ghost use Rattle.awari_streams.specs.Counted.{faults_of, inner_of};
 ghost use Rattle.awari_table.specs.Shelves.{Consistent};
 ghost use Rattle.awari_theory.specs.Older.{ConsistentOld};
 ghost use Rattle.awari_folder.specs.FolderFault.{Names, NamesLevel};
-ghost use Rattle.awari_folder.specs.Contents.{OpenIfEither, AreNames};
+ghost use Rattle.awari_folder.specs.Contents.{OpenIfEither, AreNames, KeepsFiles};
 ghost use Rattle.awari_folder.specs.Verifying.{IsReadAs, IsRefusal, IsToldOf, TellsReader};
 ghost use Rattle.awari_folder.specs.State.{IsOwnIfFree, OnlyReads, Outcome, Unchanged};
-ghost use Rattle.awari_folder.specs.Migration.{IsDueIn, IsMigratedImage, IsMigratedFile, IsNextMigrated, IsMigrationFault, IsMigrated, IsFirstMigrationFault, IsStoreFault, CrashesWhole, LacksLeast, KeepsFiles};
+ghost use Rattle.awari_migrate.specs.Migration.{IsDueIn, IsMigratedImage, IsMigratedFile, IsNextMigrated, IsMigrationFault, IsMigrated, IsFirstMigrationFault, IsStoreFault, CrashesWhole, LacksLeast};
 
-use crate::calls::{Folder, Refusal};
-use crate::faults::FolderFault;
-use crate::loading::place;
-use crate::saving::save;
 use awari_file::{FileFault, Loaded, OLD_VERSION, Unsealed, read_unsealed};
+use awari_folder::{Folder, FolderFault, Refusal, place, save};
 use awari_play::least;
 use awari_table::{Counted, HIGHEST_LEVEL, Image, Level, Shelf};
 use awari_verify::{VerifyFault, verify, verify_old};
@@ -46,9 +43,9 @@ pub struct Migrated {
 }
 
 /// Brings the levels of one folder over to another, which has no files of theirs yet. They are the
-/// levels whose files [`load`](crate::load) would look for, of version 1 or 2, and each is judged
-/// over those that were brought over before. The new files are of version 2, and have their own chain
-/// of digests.
+/// levels whose files [`load`](awari_folder::load) would look for, of version 1 or 2, and each is
+/// judged over those that were brought over before. The new files are of version 2, and have their own
+/// chain of digests.
 ///
 /// A level of version 1 has to be right by the rules of that version. It keeps its values, and gets
 /// the least distances and the lowest plans. One of version 2 has to be right by the rules in force,

@@ -16,8 +16,8 @@ use Rattle.awari_file.specs.Sealing.{Seals}
 use Rattle.awari_file.specs.declared.sealing.Unsealed.{Unsealed}
 use Rattle.awari_folder.specs.declared.faults.FolderFault.{FolderFault}
 use Rattle.awari_folder.specs.declared.faults.FolderFault.TheVariants.{Below, File, Open, Verify, Memory, Occupied, Old}
-use Rattle.awari_folder.specs.declared.migrating.Limits.{Limits}
-use Rattle.awari_folder.specs.declared.migrating.MigratedLevel.{MigratedLevel}
+use Rattle.awari_migrate.specs.declared.migrating.Limits.{Limits}
+use Rattle.awari_migrate.specs.declared.migrating.MigratedLevel.{MigratedLevel}
 use Rattle.awari_folder.specs.NextFile.{IsOverAnother, IsWrong}
 use Rattle.awari_folder.specs.Contents.{AreNames, HoldsIn, LeavesStill}
 use Rattle.awari_folder.specs.State.{State}
@@ -109,10 +109,6 @@ IsWholeFile left = (image : Image) × (below : List ℕ) × (left ≡ Some (file
 -- A crash leaves under each name what it might have left before, or a whole file where there was none.
 abbrev pub LeavesWhole : (ℕ → Option (List ℕ)) → (ℕ → Option (List ℕ) → Type 0) → (ℕ → Option (List ℕ) → Type 0) → Type 0
 LeavesWhole others old new = (n : ℕ) (left : Option (List ℕ)) → new n left → old n left ⊎ ((others n ≡ None) × IsWholeFile left)
-
--- each name that had a file has that file
-abbrev pub KeepsFiles : (ℕ → Option (Option (List ℕ))) → (ℕ → Option (Option (List ℕ))) → Type 0
-KeepsFiles old new = (n : ℕ) (bytes : List ℕ) → old n ≡ Some (Some bytes) → new n ≡ Some (Some bytes)
 
 -- The fault of a level that is to be saved where it has no file, and another may have its name.
 abbrev pub IsStoreFault : ℕ → Option (List ℕ) → FolderFault → Type 0

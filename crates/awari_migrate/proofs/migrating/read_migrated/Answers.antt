@@ -1,5 +1,5 @@
 use Rattle.awari_folder.proofs.Placing.{read_as, refusal_tells}
-use Rattle.awari_folder.proofs.migrating.read_migrated.Goals as goal
+use Rattle.awari_migrate.proofs.migrating.read_migrated.Goals as goal
 
 pub returns-clause-ok : goal.returns-clause-ok
 returns-clause-ok g c = read_as _ _ c.read_unsealed-read.result _ c.read_unsealed-read.ensures.found c.read_unsealed-read.ensures.fault c.migrated_of.ensures.ok

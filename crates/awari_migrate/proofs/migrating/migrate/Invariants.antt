@@ -1,10 +1,10 @@
 use Rattle.std.proofs.Common.{◌≡◌, ◌≤◌, ℕ, List, Option, Some, length, vec_len}
 use Rattle.std.specs.Vec.{vec_capacity}
-use Rattle.awari_folder.specs.Contents.{AreNames}
+use Rattle.awari_folder.specs.Contents.{AreNames, KeepsFiles}
 use Rattle.awari_folder.specs.State.{Unchanged}
-use Rattle.awari_folder.specs.Migration.{CrashesWhole, KeepsFiles}
-use Rattle.awari_folder.proofs.Migrations.{HasCome}
-use Rattle.awari_folder.proofs.migrating.migrate.Given as goal
+use Rattle.awari_migrate.specs.Migration.{CrashesWhole}
+use Rattle.awari_migrate.proofs.Migrations.{HasCome}
+use Rattle.awari_migrate.proofs.migrating.migrate.Given as goal
 
 abbrev pub invariant-loop : goal.invariant-loop
 invariant-loop g l =

@@ -4,7 +4,7 @@ use Rattle.awari_folder.specs.Contents.{Opens}
 use Rattle.awari_folder.proofs.Kept.{free_if}
 use Rattle.awari_folder.proofs.Saved.{saves_after}
 use Rattle.awari_folder.proofs.States.{leaves_if_free}
-use Rattle.awari_folder.proofs.migrating.store.Goals as goal
+use Rattle.awari_migrate.proofs.migrating.store.Goals as goal
 
 pub returns-clause-fault : goal.returns-clause-fault
 returns-clause-fault g c = search rules

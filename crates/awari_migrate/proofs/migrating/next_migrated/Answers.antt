@@ -1,12 +1,12 @@
 use Rattle.std.proofs.Common.{subst}
 use Rattle.std.proofs.lemmas.Result.{err_from_is_err_and}
 use Rattle.awari_folder.specs.Contents.{Opens}
-use Rattle.awari_folder.specs.Migration.{IsMigrationFault}
+use Rattle.awari_migrate.specs.Migration.{IsMigrationFault}
 use Rattle.std.proofs.Common.{length, Some}
 use Rattle.awari_folder.proofs.Opened.{of_name, not_open}
-use Rattle.awari_folder.proofs.Migrations.{fault_of_name}
+use Rattle.awari_migrate.proofs.Migrations.{fault_of_name}
 use Rattle.awari_folder.proofs.States.{only_reads}
-use Rattle.awari_folder.proofs.migrating.next_migrated.Goals as goal
+use Rattle.awari_migrate.proofs.migrating.next_migrated.Goals as goal
 
 pub returns-in_err-migrated-in-Ok-Some-clause-exact : goal.returns-in_err-migrated-in-Ok-Some-clause-exact
 returns-in_err-migrated-in-Ok-Some-clause-exact g c = λ name other is.

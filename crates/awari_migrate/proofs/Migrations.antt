@@ -12,10 +12,10 @@ use Rattle.awari_file.specs.FileText.{IsFileOf, file_text}
 use Rattle.awari_folder.specs.declared.faults.FolderFault.{FolderFault}
 use Rattle.awari_folder.specs.declared.faults.FolderFault.TheVariants.{Below, File, Open, Verify, Memory, Occupied, Old}
 use Rattle.awari_folder.specs.declared.loading.Stored.{Stored}
-use Rattle.awari_folder.specs.declared.migrating.Limits.{Limits}
+use Rattle.awari_migrate.specs.declared.migrating.Limits.{Limits}
 use Rattle.awari_folder.specs.Contents.{Same, SameBut, LeavesToo, Lacks, OpenIfRefused, OpenIfEither, Refusals, Refuses, TellsRefusal, AreNames, HoldsIn}
 use Rattle.awari_folder.specs.State.{IsOwnIfFree}
-use Rattle.awari_folder.specs.Migration.{IsDueIn, IsMigratedFile, MigrateLevels, CanMigrate, IsMigrationFault, IsStoreFault, IsMigrated, IsFirstMigrationFault, LeavesWhole}
+use Rattle.awari_migrate.specs.Migration.{IsDueIn, IsMigratedFile, MigrateLevels, CanMigrate, IsMigrationFault, IsStoreFault, IsMigrated, IsFirstMigrationFault, LeavesWhole}
 use Rattle.awari_folder.specs.Verifying.{IsMisplaced}
 use Rattle.awari_folder.proofs.Placing.{none_older, seal_fails, sealed_file}
 use Rattle.awari_file.specs.Sealing.{IsUnsealed}

@@ -1,10 +1,10 @@
 use Rattle.std.proofs.Common.{inl, subst}
 use Rattle.std.proofs.lemmas.Result.{err_from_is_err_and}
-use Rattle.awari_folder.specs.Migration.{LacksLeast}
+use Rattle.awari_migrate.specs.Migration.{LacksLeast}
 use Rattle.awari_folder.specs.Verifying.{IsReadAs}
-use Rattle.awari_folder.proofs.Migrations.{misplaced_migration, wrong_level}
+use Rattle.awari_migrate.proofs.Migrations.{misplaced_migration, wrong_level}
 use Rattle.awari_folder.proofs.Placing.{misplaced_refusal, seal_fails, sealed_file}
-use Rattle.awari_folder.proofs.migrating.migrated_of.Goals as goal
+use Rattle.awari_migrate.proofs.migrating.migrated_of.Goals as goal
 
 pub returns-in_err-place-clause-fault : goal.returns-in_err-place-clause-fault
 returns-in_err-place-clause-fault c = λ bytes known other is.

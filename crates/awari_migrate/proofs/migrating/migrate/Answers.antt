@@ -3,12 +3,12 @@ use Rattle.std.proofs.lemmas.Result.{err_from_is_err_and}
 use Rattle.awari_folder.specs.declared.faults.FolderFault.TheVariants.{Memory}
 use Rattle.awari_table.specs.Shelves.{Consistent}
 use Rattle.awari_table.specs.declared.images.Image.{Image}
-use Rattle.awari_folder.specs.Migration.{IsNextMigrated}
+use Rattle.awari_migrate.specs.Migration.{IsNextMigrated}
 use Rattle.awari_folder.specs.Contents.{HoldsIn}
 use Rattle.awari_folder.proofs.States.{unchanged, unchanged_then}
-use Rattle.awari_folder.proofs.Migrations.{come-none, come-next, come_end, longer, leaves-more, rest-more, either_first, either_second, memory_first, fault_first, store_first}
-use Rattle.awari_folder.proofs.migrating.migrate.Goals.{else-loop-test, then-loop-test+in_ok-next+in_default}
-use Rattle.awari_folder.proofs.migrating.migrate.Goals as goal
+use Rattle.awari_migrate.proofs.Migrations.{come-none, come-next, come_end, longer, leaves-more, rest-more, either_first, either_second, memory_first, fault_first, store_first}
+use Rattle.awari_migrate.proofs.migrating.migrate.Goals.{else-loop-test, then-loop-test+in_ok-next+in_default}
+use Rattle.awari_migrate.proofs.migrating.migrate.Goals as goal
 
 pub returns-in_err-limits-clause-exact : goal.returns-in_err-limits-clause-exact
 returns-in_err-limits-clause-exact g c = λ names others from to.
