@@ -4,7 +4,7 @@ use Rattle.std.specs.Fmt.{decimal}
 use Rattle.std.specs.List.{flat_map}
 use Rattle.awari_members.specs.Members.{Named, line_text, number}
 use Rattle.awari_members.specs.Json.{hex_digit}
-use Rattle.awari_queries.specs.declared.boards.Form.TheVariants.{Text}
+use Rattle.awari_members.specs.declared.forms.Form.TheVariants.{Text}
 use Rattle.awari_table.specs.Images.{won_boards, even_boards, lost_boards}
 use Rattle.awari_table.specs.declared.images.Image.{Image}
 use Rattle.awari_answers.specs.declared.telling.LevelLine.{LevelLine}

@@ -3,12 +3,11 @@
 ghost use Rattle.std.specs.Prelude.{◌≡◌, ◌≤◌, ◌++◌, ◌∷◌, [], ◌↔◌, true, false, map, IfSome};
 ghost use Rattle.std.specs.Io.KnownBytes.{Appends};
 ghost use Rattle.awari_members.specs.Members.{line_text, said};
-ghost use Rattle.awari_queries.specs.Boards.{form_of};
+ghost use Rattle.awari_members.specs.Forms.{form_of};
 
 use crate::remarks::{Explained, Replies};
 use arrayvec::ArrayString;
-use awari_members::{Line, Member};
-use awari_queries::form_of;
+use awari_members::{Line, Member, form_of};
 use std::fmt::{self, Display, Write as _};
 use std::io::Write;
 

@@ -4,8 +4,7 @@ ghost use Rattle.std.specs.Prelude.{◌≡◌};
 ghost use Rattle.awari_answers.specs.LevelLines.{IsToldOf, digest_text};
 
 use arrayvec::ArrayString;
-use awari_members::{Line, Member, hex_digit};
-use awari_queries::Form;
+use awari_members::{Form, Line, Member, hex_digit};
 use awari_rank::size;
 use awari_table::{Counts, Level};
 use std::fmt;

@@ -9,7 +9,7 @@ use Rattle.awari_play.specs.LongestLine.{IsLongestLine}
 use Rattle.awari_play.specs.Plies.{AreLinePlies}
 use Rattle.awari_play.specs.declared.plies.Ply.{Ply}
 use Rattle.awari_play.specs.declared.plies.Repeat.{Repeat}
-use Rattle.awari_queries.specs.declared.boards.Form.TheVariants.{Json}
+use Rattle.awari_members.specs.declared.forms.Form.TheVariants.{Json}
 use Rattle.awari_queries.specs.declared.questions.LineQuery.{LineQuery}
 use Rattle.awari_table.specs.Images.{entry_of, greatest_limit, table_of}
 use Rattle.awari_table.specs.declared.images.Image.{Image}

@@ -4,7 +4,7 @@ use Rattle.std.specs.List.{flat_map}
 use Rattle.awari_members.specs.Members.{Named, board, line_text, number, signed}
 use Rattle.awari_play.specs.declared.plies.Ply.{Ply}
 use Rattle.awari_play.specs.declared.plies.Repeat.{Repeat}
-use Rattle.awari_queries.specs.Boards.{form_of}
+use Rattle.awari_members.specs.Forms.{form_of}
 
 -- a ply, and where the line comes back to a board
 abbrev pub ply_members : Ply → List Named

@@ -16,7 +16,7 @@ use Rattle.awari_table.specs.declared.images.Image.{Image}
 use Rattle.awari_facts.specs.Numbers.{IsAt}
 use Rattle.awari_levels.specs.Listing.{due_boards, each, farthest_among, farthest_of, fits, is_weighed, is_within, passes, passing, suits, taken_boards, wanted_boards}
 use Rattle.awari_levels.specs.Walks.{Chosen}
-use Rattle.awari_queries.specs.declared.boards.Form.TheVariants.{Text}
+use Rattle.awari_members.specs.declared.forms.Form.TheVariants.{Text}
 use Rattle.awari_queries.specs.declared.boards.Spans.{Spans}
 use Rattle.awari_levels.specs.declared.wanted.Wanted.{Wanted}
 

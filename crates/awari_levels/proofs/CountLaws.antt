@@ -17,7 +17,7 @@ use Rattle.awari_facts.proofs.SourceLaws.{image_of}
 use Rattle.awari_levels.specs.Numbers.{AreNumbersOf}
 use Rattle.awari_levels.specs.declared.counts.Numbers.{Numbers}
 use Rattle.awari_members.specs.Members.{share_line}
-use Rattle.awari_queries.specs.declared.boards.Form.{Form}
+use Rattle.awari_members.specs.declared.forms.Form.{Form}
 use Rattle.awari_levels.specs.Counts.{boards_of_distance, boards_of_value, count_lines, distance_lines, lines_of_levels, names_of_levels, shown_distance, shown_level, shown_levels, shown_told, shown_value, told_of, top_of, value_at, value_lines}
 
 range-more : (n : ℕ) → range_with_len 0 (n + 1) ≡ range_with_len 0 n ++ n ∷ []

@@ -13,10 +13,11 @@ use Rattle.awari_table.specs.declared.images.Image.{Image}
 use Rattle.awari_levels.specs.Listing.{board_lines, header_of, stem_of, wanted_boards}
 use Rattle.awari_facts.specs.Loads.{HasLevel}
 use Rattle.awari_facts.specs.Sources.{IsSaidOf}
-use Rattle.awari_queries.specs.Boards.{AreAskedFor, HasNoSpan, form_of}
+use Rattle.awari_queries.specs.Boards.{AreAskedFor, HasNoSpan}
+use Rattle.awari_members.specs.Forms.{form_of}
 use Rattle.awari_queries.specs.Orders.{AsksForOrder, HasNoOrder}
 use Rattle.awari_queries.specs.declared.boards.BoardsQuery.{BoardsQuery}
-use Rattle.awari_queries.specs.declared.boards.Form.TheVariants.{Text}
+use Rattle.awari_members.specs.declared.forms.Form.TheVariants.{Text}
 use Rattle.awari_queries.specs.declared.boards.Spans.{Spans}
 use Rattle.awari_levels.specs.declared.wanted.Wanted.{Wanted}
 

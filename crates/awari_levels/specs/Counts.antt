@@ -7,8 +7,8 @@ use Rattle.awari_answers.specs.Asked.{AreLevelsTo}
 use Rattle.awari_answers.specs.LevelLines.{level_members}
 use Rattle.awari_answers.specs.declared.telling.LevelLine.{LevelLine}
 use Rattle.awari_members.specs.Members.{Named, line_text, number, share_line, signed, text}
-use Rattle.awari_queries.specs.declared.boards.Form.{Form}
-use Rattle.awari_queries.specs.declared.boards.Form.TheVariants.{Text, Csv, Json}
+use Rattle.awari_members.specs.declared.forms.Form.{Form}
+use Rattle.awari_members.specs.declared.forms.Form.TheVariants.{Text, Csv, Json}
 use Rattle.awari_table.specs.Images.{even_boards, lost_boards, won_boards}
 use Rattle.awari_table.specs.declared.TheConstants.{HIGHEST_LEVEL}
 use Rattle.awari_table.specs.declared.images.Entry.{Entry}

@@ -15,8 +15,8 @@ use Rattle.awari_queries.specs.Spans.{has, is_in}
 use Rattle.awari_members.specs.Json.{commas, member}
 use Rattle.awari_members.specs.Members.{member_text}
 use Rattle.awari_play.specs.Json.{entry_members}
-use Rattle.awari_queries.specs.declared.boards.Form.{Form}
-use Rattle.awari_queries.specs.declared.boards.Form.TheVariants.{Text, Csv, Json}
+use Rattle.awari_members.specs.declared.forms.Form.{Form}
+use Rattle.awari_members.specs.declared.forms.Form.TheVariants.{Text, Csv, Json}
 use Rattle.awari_queries.specs.declared.boards.Spans.{Spans}
 use Rattle.awari_queries.specs.declared.orders.Order.{Order}
 use Rattle.awari_rank.specs.Tuples.{tuples}

@@ -2,14 +2,14 @@
 
 ghost use Rattle.std.specs.Prelude.{◌≡◌, ◌≤◌, ◌+◌, ◌++◌, [], true, length};
 ghost use Rattle.arrayvec.specs.ArrayVec.{array_vec_len};
-ghost use Rattle.awari_queries.specs.declared.boards.Form.TheVariants.{Csv, Text};
+ghost use Rattle.awari_members.specs.declared.forms.Form.TheVariants.{Csv, Text};
 ghost use Rattle.awari_levels.specs.Listing.{added_text, end_of, header_text, line_of, stem_of};
 ghost use Rattle.awari_levels.specs.Batches.{Passes};
 
 use arrayvec::ArrayVec;
 use awari_board::Board;
+use awari_members::Form;
 use awari_play::entry_json;
-use awari_queries::Form;
 use awari_table::{Entry, TextLine, push_number, push_signed};
 use std::io::Write;
 

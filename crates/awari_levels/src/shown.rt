@@ -6,8 +6,7 @@ ghost use Rattle.awari_levels.specs.Counts.{names_of_levels, shown_distance, sho
 ghost use Rattle.awari_members.specs.Members.{line_text, said};
 
 use awari_answers::{LevelLine, print};
-use awari_members::{Line, Member};
-use awari_queries::Form;
+use awari_members::{Form, Line, Member};
 use std::io::Write;
 
 /// Prints members as a line of this form, and says whether the writer took it.

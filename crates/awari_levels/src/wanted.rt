@@ -19,8 +19,9 @@ use awari_facts::{
     number_on, own_stones, plan_captures, trap_by, waits,
 };
 use awari_folder::{Folder, FolderFault};
+use awari_members::Form;
 use awari_packed::PackedBoard;
-use awari_queries::{Form, Order, Spans, has, is_in, key_of};
+use awari_queries::{Order, Spans, has, is_in, key_of};
 use awari_table::{Entry, Shelf};
 
 /// Which boards of a level are wanted, and how.

@@ -5,8 +5,8 @@ use Rattle.std.specs.Fmt.{decimal}
 use Rattle.awari_members.specs.declared.lines.Member.{Member}
 use Rattle.std.specs.List.{flat_map}
 use Rattle.awari_members.specs.Json.{array, commas}
-use Rattle.awari_queries.specs.declared.boards.Form.{Form}
-use Rattle.awari_queries.specs.declared.boards.Form.TheVariants.{Text, Csv, Json}
+use Rattle.awari_members.specs.declared.forms.Form.{Form}
+use Rattle.awari_members.specs.declared.forms.Form.TheVariants.{Text, Csv, Json}
 use Rattle.awari_members.specs.Members.{Named, later_pits, line_text, mark_of, marked, member_text, pits_text, said, spaced}
 
 later_pits-are : (pits : List ℕ) → later_pits pits ≡ flat_map (λ t. 44 ∷ t) (map decimal pits)

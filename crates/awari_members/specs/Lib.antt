@@ -1,2 +1,3 @@
+pub mod Forms
 pub mod Json
 pub mod Members

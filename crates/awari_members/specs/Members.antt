@@ -4,8 +4,8 @@ use Rattle.std.specs.Fmt.{decimal, signed_decimal}
 use Rattle.std.specs.List.{flat_map}
 use Rattle.awari_board.specs.Text.{text_of}
 use Rattle.awari_members.specs.Json.{array, commas, member, object, quoted, truth_text}
-use Rattle.awari_queries.specs.declared.boards.Form.{Form}
-use Rattle.awari_queries.specs.declared.boards.Form.TheVariants.{Text, Csv, Json}
+use Rattle.awari_members.specs.declared.forms.Form.{Form}
+use Rattle.awari_members.specs.declared.forms.Form.TheVariants.{Text, Csv, Json}
 use Rattle.awari_members.specs.declared.lines.Member.{Member}
 use Rattle.awari_members.specs.declared.values.Value.{Value}
 use Rattle.awari_members.specs.declared.values.Value.TheVariants as value

@@ -6,10 +6,10 @@ ghost use Rattle.arrayvec.specs.ArrayVec.{array_vec_len};
 ghost use Rattle.awari_members.specs.Json.{array, comma_before};
 ghost use Rattle.awari_members.specs.Members.{marked, member_text, name_in, room_of, said, string, value_text, width};
 
+use crate::forms::Form;
 use crate::lines::{Member, mark_of};
 use crate::texts::{ANSWER_ROOM, AnswerText, push_bytes};
 use crate::values::{Value, missing, truth_text};
-use awari_queries::Form;
 use awari_streams::{TextLine, push_number};
 
 /// Puts members in a form behind others, with `mark` before the first of them. Conditions: the mark has at most

@@ -13,11 +13,13 @@
 //!     }
 #![tactic(auto)]
 
+mod forms;
 mod in_place;
 mod lines;
 mod texts;
 mod values;
 
+pub use forms::{Form, form_of};
 pub use in_place::{push_comma, push_members};
 pub use lines::{Line, Member};
 pub use texts::{ANSWER_ROOM, AnswerText, hex_digit, push_bytes, push_string, text_of_line};

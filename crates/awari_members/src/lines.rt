@@ -3,9 +3,9 @@
 ghost use Rattle.std.specs.Prelude.{◌≡◌, ◌≤◌, ◌+◌, ◌*◌, length};
 ghost use Rattle.awari_members.specs.Members.{board, mark_of, number, pit, pits, room_for, said, signed, text, truth};
 
+use crate::forms::Form;
 use crate::values::{InForm, Value};
 use awari_board::Board;
-use awari_queries::Form;
 use std::fmt;
 
 /// A name and a value.

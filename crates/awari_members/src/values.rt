@@ -4,8 +4,8 @@ ghost use Rattle.std.specs.Prelude.{◌≡◌, ◌≤◌, length};
 ghost use Rattle.awari_members.specs.Json.{truth_text};
 ghost use Rattle.awari_members.specs.Members.{missing};
 
+use crate::forms::Form;
 use awari_board::Board;
-use awari_queries::Form;
 use std::fmt;
 
 /// The value of a member.

@@ -9,9 +9,9 @@ use Rattle.std.specs.Io.KnownBytes.{Appends}
 use Rattle.std.specs.List.{flat_map, range_with_len}
 use Rattle.awari_facts.specs.Sources.{limit_of}
 use Rattle.awari_members.specs.Members.{share_line}
-use Rattle.awari_queries.specs.Boards.{form_of}
+use Rattle.awari_members.specs.Forms.{form_of}
 use Rattle.awari_queries.specs.Columns.{AsksForPair}
-use Rattle.awari_queries.specs.declared.boards.Form.{Form}
+use Rattle.awari_members.specs.declared.forms.Form.{Form}
 use Rattle.awari_queries.specs.declared.columns.Pair.{Pair}
 use Rattle.awari_queries.specs.declared.questions.CountsQuery.{CountsQuery}
 use Rattle.awari_rank.specs.Tuples.{tuples}

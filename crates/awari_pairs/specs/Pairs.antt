@@ -9,10 +9,10 @@ use Rattle.awari_facts.specs.Loads.{HasLevel}
 use Rattle.awari_facts.specs.Numbers.{number_in}
 use Rattle.awari_facts.specs.Sources.{IsSaidOf, limit_of}
 use Rattle.awari_members.specs.Members.{Named, line_text, missing, number, share_line}
-use Rattle.awari_queries.specs.Boards.{form_of}
+use Rattle.awari_members.specs.Forms.{form_of}
 use Rattle.awari_queries.specs.Columns.{AsksForPair, name_of}
-use Rattle.awari_queries.specs.declared.boards.Form.{Form}
-use Rattle.awari_queries.specs.declared.boards.Form.TheVariants.{Text, Csv, Json}
+use Rattle.awari_members.specs.declared.forms.Form.{Form}
+use Rattle.awari_members.specs.declared.forms.Form.TheVariants.{Text, Csv, Json}
 use Rattle.awari_queries.specs.declared.columns.Column.{Column}
 use Rattle.awari_queries.specs.declared.columns.Column.TheVariants.{Rank, Value, Distance, Plan, Captures, Moves, Keep}
 use Rattle.awari_queries.specs.declared.columns.Pair.{Pair}

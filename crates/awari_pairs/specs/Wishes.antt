@@ -3,7 +3,7 @@ use Rattle.std.specs.Prelude.{◌≡◌, ℕ, List, Option, Some, None}
 use Rattle.std.specs.Borrow.{Bor}
 use Rattle.awari_answers.specs.declared.asked.NoAnswer.{NoAnswer}
 use Rattle.awari_answers.specs.declared.asked.NoAnswer.TheVariants.{Column}
-use Rattle.awari_queries.specs.Boards.{form_of}
+use Rattle.awari_members.specs.Forms.{form_of}
 use Rattle.awari_queries.specs.Columns.{AsksForPair, HasNoPair}
 use Rattle.awari_queries.specs.declared.columns.NoColumn.{NoColumn}
 use Rattle.awari_queries.specs.declared.columns.NoColumn.TheVariants.{By, Level}

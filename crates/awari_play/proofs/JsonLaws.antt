@@ -8,7 +8,7 @@ use Rattle.awari_play.specs.Json.{entry_json, entry_members, move_json, moves_me
 use Rattle.awari_play.specs.Worths.{is_planned, replies_members, worth_members}
 use Rattle.awari_play.specs.declared.weighing.Weighed.{Weighed}
 use Rattle.awari_play.specs.declared.weighing.WeighedMove.{WeighedMove}
-use Rattle.awari_queries.specs.declared.boards.Form.TheVariants.{Json}
+use Rattle.awari_members.specs.declared.forms.Form.TheVariants.{Json}
 use Rattle.awari_table.specs.declared.images.Entry.{Entry}
 
 -- an object with its line feed

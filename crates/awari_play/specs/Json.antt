@@ -5,7 +5,7 @@ use Rattle.awari_members.specs.Members.{Named, board, line_text, number, pit, si
 use Rattle.awari_play.specs.Worths.{is_planned, worth_members}
 use Rattle.awari_play.specs.declared.weighing.Weighed.{Weighed}
 use Rattle.awari_play.specs.declared.weighing.WeighedMove.{WeighedMove}
-use Rattle.awari_queries.specs.declared.boards.Form.TheVariants.{Json}
+use Rattle.awari_members.specs.declared.forms.Form.TheVariants.{Json}
 use Rattle.awari_table.specs.declared.images.Entry.{Entry}
 
 -- a legal move: what its line has, and whether it is the plan

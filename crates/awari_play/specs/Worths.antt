@@ -9,7 +9,7 @@ use Rattle.awari_members.specs.Members.{Named, line_text, number, signed}
 use Rattle.awari_play.specs.MoveWorth.{IsMoveWorth, pit_of}
 use Rattle.awari_play.specs.declared.replies.Replies.{Replies}
 use Rattle.awari_play.specs.declared.worths.MoveWorth.{MoveWorth}
-use Rattle.awari_queries.specs.declared.boards.Form.TheVariants.{Text}
+use Rattle.awari_members.specs.declared.forms.Form.TheVariants.{Text}
 use Rattle.awari_table.specs.Images.{entry_of, table_of}
 use Rattle.awari_table.specs.declared.images.Entry.{Entry}
 use Rattle.awari_table.specs.declared.images.Image.{Image}

@@ -21,8 +21,9 @@ use crate::replies::{Replies, replies_to};
 use crate::worths::{MoveWorth, move_worths};
 use arrayvec::ArrayVec;
 use awari_board::Board;
-use awari_members::{ANSWER_ROOM, AnswerText, Member, push_bytes, push_members, text_of_line};
-use awari_queries::Form;
+use awari_members::{
+    ANSWER_ROOM, AnswerText, Form, Member, push_bytes, push_members, text_of_line,
+};
 use awari_table::{Entry, NotYet, Shelf, TextLine, push_signed, push_text};
 
 /// A legal move of a board that was weighed.

@@ -1,10 +1,8 @@
--- Which spans are asked for of boards, and how these are printed.
-use Rattle.std.specs.Prelude.{ℕ, List, Option, Bool, true, false}
+-- Which spans are asked for of boards.
+use Rattle.std.specs.Prelude.{ℕ, List, Option}
 use Rattle.std.specs.Borrow.{Bor}
 use Rattle.awari_queries.specs.Spans.{AsksFor, AsksForNone}
 use Rattle.awari_queries.specs.declared.boards.BoardSpans.{BoardSpans}
-use Rattle.awari_queries.specs.declared.boards.Form.{Form}
-use Rattle.awari_queries.specs.declared.boards.Form.TheVariants.{Text, Csv, Json}
 use Rattle.awari_queries.specs.declared.boards.Spans.{Spans}
 use Rattle.awari_queries.specs.declared.spans.NoSpan.{NoSpan}
 use Rattle.awari_queries.specs.declared.spans.NoSpan.TheVariants.{Value, Distance, Plan, Captures, Side, Moves, Keep, Trap}
@@ -42,9 +40,3 @@ HasNoSpan words Keep =
 HasNoSpan words Trap =
     AsksForSome words.value × AsksForSome words.distance × AsksForSome words.plan × AsksForSome words.captures
     × AsksForSome words.side × AsksForSome words.moves × AsksForSome words.keep × AsksForNone words.trap
-
--- the form that is asked for
-abbrev pub form_of : Bool → Bool → Form
-form_of true csv = Json
-form_of false true = Csv
-form_of false false = Text

@@ -1,7 +1,7 @@
 //! Which boards of a level are asked for.
 
-ghost use Rattle.std.specs.Prelude.{◌≡◌, IfErr, IfOk};
-ghost use Rattle.awari_queries.specs.Boards.{AreAskedFor, HasNoSpan, form_of};
+ghost use Rattle.std.specs.Prelude.{IfErr, IfOk};
+ghost use Rattle.awari_queries.specs.Boards.{AreAskedFor, HasNoSpan};
 
 use crate::spans::{NoSpan, Span, asked_span};
 
@@ -63,27 +63,6 @@ pub struct BoardSpans<'a> {
     pub keep: Option<&'a str>,
     /// Stones that are thrown away by whoever captures the most.
     pub trap: Option<&'a str>,
-}
-
-/// How boards are printed.
-#[derive(Clone, Copy, Debug, PartialEq, Eq)]
-pub enum Form {
-    /// A line with spaces.
-    Text,
-    /// Values with commas, below a line of names.
-    Csv,
-    /// An object a line.
-    Json,
-}
-
-/// The form that is asked for.
-pub fn form_of(json: bool, csv: bool) -> Form
-    ensures { result ≡ form_of json csv }
-{
-    if json {
-        return Form::Json;
-    }
-    if csv { Form::Csv } else { Form::Text }
 }
 
 /// Spans of numbers that are known of each board.

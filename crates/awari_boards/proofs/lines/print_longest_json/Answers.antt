@@ -1,7 +1,7 @@
 use Rattle.std.proofs.Common.{◌≡◌, List, ◌++◌, ◌∷◌, [], codes, false, true, map, refl, rules, subst}
 use Rattle.std.specs.Io.KnownBytes.{Appends}
 use Rattle.awari_members.specs.Members.{Named, line_text, number, pits, said, signed, text}
-use Rattle.awari_queries.specs.Boards.{form_of}
+use Rattle.awari_members.specs.Forms.{form_of}
 use Rattle.awari_boards.proofs.lines.print_longest_json.Goals as goal
 
 pub returns : goal.returns

@@ -1,7 +1,7 @@
 use Rattle.std.proofs.Common.{◌≡◌, List, ◌++◌, ◌∷◌, [], codes, false, map, refl, rules, subst}
 use Rattle.std.specs.Io.KnownBytes.{Appends}
 use Rattle.awari_members.specs.Members.{Named, board, line_text, number, said, signed}
-use Rattle.awari_queries.specs.Boards.{form_of}
+use Rattle.awari_members.specs.Forms.{form_of}
 use Rattle.awari_boards.proofs.plies.print_ply.Goals as goal
 
 pub returns : goal.returns

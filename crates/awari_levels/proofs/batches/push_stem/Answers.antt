@@ -1,7 +1,7 @@
 use Rattle.std.proofs.Common.{◌++◌, ◌-◌, ap, sym, take, ◌∙◌}
 use Rattle.awari_levels.proofs.ListingLaws.{front_long, front_taken, json-front}
 use Rattle.awari_levels.specs.Listing.{stem_of}
-use Rattle.awari_queries.specs.declared.boards.Form.TheVariants.{Json}
+use Rattle.awari_members.specs.declared.forms.Form.TheVariants.{Json}
 use Rattle.awari_levels.proofs.batches.push_stem.Goals as goal
 
 pub slice_bounds-push_text-count : goal.slice_bounds-push_text-count

@@ -4,7 +4,7 @@ use Rattle.awari_members.proofs.JsonLaws.{append_two}
 use Rattle.awari_members.specs.Members.{marked}
 use Rattle.awari_play.specs.Json.{entry_members}
 use Rattle.awari_play.proofs.JsonLaws.{entry_json-parts}
-use Rattle.awari_queries.specs.declared.boards.Form.TheVariants.{Json}
+use Rattle.awari_members.specs.declared.forms.Form.TheVariants.{Json}
 use Rattle.awari_play.proofs.json.entry_json.Goals as goal
 
 pub returns : goal.returns

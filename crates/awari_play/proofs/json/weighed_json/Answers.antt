@@ -5,7 +5,7 @@ use Rattle.awari_members.specs.Json.{commas}
 use Rattle.awari_members.specs.Members.{marked}
 use Rattle.awari_play.specs.Json.{entry_members, move_json}
 use Rattle.awari_play.proofs.JsonLaws.{weighed_json-parts}
-use Rattle.awari_queries.specs.declared.boards.Form.TheVariants.{Json}
+use Rattle.awari_members.specs.declared.forms.Form.TheVariants.{Json}
 use Rattle.awari_play.proofs.json.weighed_json.Goals as goal
 
 pub returns : goal.returns

@@ -1,6 +1,6 @@
 use Rattle.std.proofs.Common.{IsOk, List, ℕ, ap, map, subst, sym, ◌∙◌, rules}
 use Rattle.std.specs.Fmt.{HasWritten, IsPlainFormatter}
-use Rattle.awari_queries.specs.declared.boards.Form.{Form}
+use Rattle.awari_members.specs.declared.forms.Form.{Form}
 use Rattle.awari_members.specs.Members.{line_text, said}
 use Rattle.awari_members.proofs.MemberLaws.{csv-line, json-line, text-line}
 use Rattle.awari_members.proofs.lines.LineDisplay.fmt.Goals as goal
