@@ -8,7 +8,7 @@ use crate::printing::{Refused, print};
 use crate::remarks::{Printed, Reason, Replies};
 use arrayvec::{ArrayString, ArrayVec};
 use awari_members::{Form, form_of};
-use awari_play::refusal_json;
+use awari_shown::refusal_json;
 use std::fmt::{self, Write as _};
 use std::io::Write;
 use std::str;

@@ -1,7 +1,7 @@
 -- The command `ask`: what is printed of a board.
 use Rattle.std.specs.Prelude.{◌≡◌, ℕ, Bool, false, true, List, Option}
 use Rattle.std.specs.Io.KnownBytes.{Appends}
-use Rattle.awari_play.specs.Json.{entry_json}
+use Rattle.awari_shown.specs.Json.{entry_json}
 use Rattle.awari_queries.specs.declared.questions.AskQuery.{AskQuery}
 use Rattle.awari_table.specs.Images.{entry_of}
 use Rattle.awari_table.specs.Spelling.{entry_line}

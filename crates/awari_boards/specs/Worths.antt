@@ -1,8 +1,9 @@
 -- The command `moves`: what is printed of the legal moves of a board.
 use Rattle.std.specs.Prelude.{ℕ, Bool, false, true, List, Option}
 use Rattle.std.specs.Io.KnownBytes.{Appends}
-use Rattle.awari_play.specs.Json.{weighed_json}
-use Rattle.awari_play.specs.Worths.{IsWeighed, weighed_text}
+use Rattle.awari_shown.specs.Json.{weighed_json}
+use Rattle.awari_play.specs.Worths.{IsWeighed}
+use Rattle.awari_shown.specs.Moves.{weighed_text}
 use Rattle.awari_play.specs.declared.weighing.Weighed.{Weighed}
 use Rattle.awari_queries.specs.declared.questions.MovesQuery.{MovesQuery}
 use Rattle.awari_boards.specs.Known.{IsKnown}

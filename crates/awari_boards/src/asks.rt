@@ -15,8 +15,8 @@ use awari_answers::{NoAnswer, Replies, ask_folder, print_bytes, refuse_as, statu
 use awari_board::Board;
 use awari_folder::Folder;
 use awari_places::entry;
-use awari_play::entry_json;
 use awari_queries::AskQuery;
+use awari_shown::entry_json;
 use awari_table::{Entry, line_of_entry};
 use std::alloc::Global;
 use std::io::Write;

@@ -14,8 +14,9 @@ use crate::opening::{OpenedFor, open_level_of};
 use awari_answers::{NoAnswer, Replies, ask_folder, print_bytes, refuse_as, status_of};
 use awari_board::Board;
 use awari_folder::Folder;
-use awari_play::{Weighed, weigh, weighed_json};
+use awari_play::{Weighed, weigh};
 use awari_queries::MovesQuery;
+use awari_shown::{weighed_json, weighed_text};
 use std::alloc::Global;
 use std::io::Write;
 use std::thread::Threads;
@@ -75,7 +76,7 @@ fn print_worths<W: Write>(board: &Board, weighed: &Weighed, json: bool, writer: 
         let line = weighed_json(board, weighed);
         return print_bytes(writer, line.as_slice());
     }
-    print_bytes(writer, weighed.text().as_slice())
+    print_bytes(writer, weighed_text(weighed).as_slice())
 }
 
 /// Prints what each legal move of a board is worth, with its replies if these are asked for; or that the

@@ -7,8 +7,8 @@ use Rattle.awari_board.specs.Rules.{IsBoard}
 use Rattle.awari_board.specs.Text.{text_of}
 use Rattle.awari_board.specs.BoardFault.{IsFaulty, fault_text as board_fault_text}
 use Rattle.awari_table.specs.Spelling.{entry_line}
-use Rattle.awari_play.specs.Json.{refusal_json, weighed_json}
-use Rattle.awari_play.specs.Worths.{weighed_text}
+use Rattle.awari_shown.specs.Json.{refusal_json, weighed_json}
+use Rattle.awari_shown.specs.Moves.{weighed_text}
 use Rattle.awari_desk.specs.Answering.{Answering}
 use Rattle.awari_desk.specs.ProbeFault.{name_of, number_of}
 use Rattle.awari_desk.specs.declared.faults.ProbeFault.{ProbeFault}

@@ -4,7 +4,7 @@ ghost use Rattle.std.specs.Prelude.{◌≡◌, ◌≤◌, ◌++◌, ◌∷◌, [
 ghost use Rattle.awari_board.specs.BoardFault.{fault_text};
 ghost use Rattle.awari_desk.specs.ProbeFault.{name_of as probe_name_of, number_of as probe_number_of};
 ghost use Rattle.awari_desk.specs.Service.{answer_text};
-ghost use Rattle.awari_play.specs.Worths.{weighed_text};
+ghost use Rattle.awari_shown.specs.Moves.{weighed_text};
 
 use crate::faults::ProbeFault;
 use crate::oracles::Oracle;
@@ -12,7 +12,8 @@ use crate::requests::LONGEST_REQUEST;
 use arrayvec::ArrayVec;
 use awari_board::{Board, BoardFault};
 use awari_members::{AnswerText, text_of_line};
-use awari_play::{Weighed, refusal_json, weighed_json};
+use awari_play::Weighed;
+use awari_shown::{refusal_json, weighed_json, weighed_text};
 use awari_streams::{TextLine, numbered_line, push_text};
 use awari_table::{Entry, line_of_entry};
 
@@ -120,7 +121,7 @@ fn probe_name<O: Oracle>(fault: &ProbeFault<O::Fault>) -> &'static str
 fn text_of_moves(weighed: &Weighed) -> AnswerText
     ensures { result.items ≡ weighed_text weighed.now ++ 10 ∷ [] }
 {
-    let mut text = weighed.text();
+    let mut text = weighed_text(weighed);
     text.push(b'\n');
     text
 }

@@ -10,7 +10,7 @@ use Rattle.awari_table.specs.declared.images.Entry.{Entry}
 use Rattle.awari_table.specs.declared.images.Image.{Image}
 use Rattle.awari_members.specs.Json.{commas}
 use Rattle.awari_members.specs.Members.{line_text, member_text}
-use Rattle.awari_play.specs.Json.{entry_json, entry_members}
+use Rattle.awari_shown.specs.Json.{entry_json, entry_members}
 use Rattle.awari_members.specs.declared.forms.Form.TheVariants.{Json}
 use Rattle.awari_levels.proofs.ChoiceLaws.{all, all_wanted}
 use Rattle.awari_levels.specs.Batches.{Passes}

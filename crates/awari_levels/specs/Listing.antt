@@ -14,7 +14,7 @@ use Rattle.awari_queries.specs.Orders.{key_of}
 use Rattle.awari_queries.specs.Spans.{has, is_in}
 use Rattle.awari_members.specs.Json.{commas, member}
 use Rattle.awari_members.specs.Members.{member_text}
-use Rattle.awari_play.specs.Json.{entry_members}
+use Rattle.awari_shown.specs.Json.{entry_members}
 use Rattle.awari_members.specs.declared.forms.Form.{Form}
 use Rattle.awari_members.specs.declared.forms.Form.TheVariants.{Text, Csv, Json}
 use Rattle.awari_queries.specs.declared.boards.Spans.{Spans}

@@ -9,7 +9,7 @@ ghost use Rattle.awari_levels.specs.Batches.{Passes};
 use arrayvec::ArrayVec;
 use awari_board::Board;
 use awari_members::Form;
-use awari_play::entry_json;
+use awari_shown::entry_json;
 use awari_table::{Entry, TextLine, push_number, push_signed};
 use std::io::Write;
 

@@ -7,6 +7,4 @@ pub mod Lowerings
 pub mod Alike
 pub mod Worthing
 pub mod HoldingOut
-pub mod WorthLines
 pub mod PlyLaws
-pub mod JsonLaws

@@ -9,4 +9,3 @@ pub mod Lowering
 pub mod MoveWorth
 pub mod Worths
 pub mod Plies
-pub mod Json

@@ -22,7 +22,6 @@
 //!     }
 #![tactic(auto)]
 
-mod json;
 mod laws;
 mod lines;
 mod longest;
@@ -33,7 +32,6 @@ mod replies;
 mod weighing;
 mod worths;
 
-pub use json::{entry_json, refusal_json, weighed_json};
 pub use laws::{lowest_levels_are_one, lowest_plans_stay};
 pub use lines::{Line, LineFault, best_line, play_pit};
 pub use longest::longest_line;

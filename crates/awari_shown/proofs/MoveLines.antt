@@ -3,7 +3,7 @@ use Rattle.std.proofs.Common.{◌≡◌, ℕ, ◌+◌, ◌<◌, List, [], ◌∷
 use Rattle.std.proofs.lemmas.Grind.{flat_map-append}
 use Rattle.std.proofs.lemmas.List.{take_more}
 use Rattle.awari_play.specs.declared.weighing.WeighedMove.{WeighedMove}
-use Rattle.awari_play.specs.Worths.{move_line, move_lines}
+use Rattle.awari_shown.specs.Moves.{move_line, move_lines}
 
 -- one line more
 pub move_lines-more : (plan : Option ℕ) (moves : List WeighedMove) (i : ℕ) (m : WeighedMove) (before after : List ℕ) → i < length moves → get_or moves i m ≡ m

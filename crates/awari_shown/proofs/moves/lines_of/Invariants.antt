@@ -1,7 +1,7 @@
 use Rattle.std.proofs.Common.{◌≡◌, ◌≤◌, ◌*◌, take}
 use Rattle.arrayvec.specs.ArrayVec.{array_vec_len}
-use Rattle.awari_play.specs.Worths.{move_lines}
-use Rattle.awari_play.proofs.weighing.lines_of.Given as goal
+use Rattle.awari_shown.specs.Moves.{move_lines}
+use Rattle.awari_shown.proofs.moves.lines_of.Given as goal
 
 abbrev pub invariant-loop-weighed : goal.invariant-loop-weighed
 invariant-loop-weighed l = record {

@@ -2,10 +2,10 @@ use Rattle.std.proofs.Common.{◌∙◌, ◌++◌, [], ap}
 use Rattle.std.specs.Prelude.{codes}
 use Rattle.awari_members.proofs.JsonLaws.{append_two}
 use Rattle.awari_members.specs.Members.{marked}
-use Rattle.awari_play.specs.Json.{entry_members}
-use Rattle.awari_play.proofs.JsonLaws.{entry_json-parts}
+use Rattle.awari_shown.specs.Json.{entry_members}
+use Rattle.awari_shown.proofs.JsonLaws.{entry_json-parts}
 use Rattle.awari_members.specs.declared.forms.Form.TheVariants.{Json}
-use Rattle.awari_play.proofs.json.entry_json.Goals as goal
+use Rattle.awari_shown.proofs.json.entry_json.Goals as goal
 
 pub returns : goal.returns
 returns c =

@@ -3,10 +3,10 @@ use Rattle.std.specs.Prelude.{codes}
 use Rattle.awari_members.proofs.JsonLaws.{append_two}
 use Rattle.awari_members.specs.Json.{commas}
 use Rattle.awari_members.specs.Members.{marked}
-use Rattle.awari_play.specs.Json.{entry_members, move_json}
-use Rattle.awari_play.proofs.JsonLaws.{weighed_json-parts}
+use Rattle.awari_shown.specs.Json.{entry_members, move_json}
+use Rattle.awari_shown.proofs.JsonLaws.{weighed_json-parts}
 use Rattle.awari_members.specs.declared.forms.Form.TheVariants.{Json}
-use Rattle.awari_play.proofs.json.weighed_json.Goals as goal
+use Rattle.awari_shown.proofs.json.weighed_json.Goals as goal
 
 pub returns : goal.returns
 returns c =

@@ -1,8 +1,8 @@
 use Rattle.std.proofs.Common.{◌∙◌, ◌∷◌, ◌++◌, [], ap, append_assoc, sym}
 use Rattle.awari_members.proofs.JsonLaws.{append_two}
 use Rattle.awari_members.proofs.MemberLaws.{text-line}
-use Rattle.awari_play.specs.Worths.{is_planned, plan_mark, worth_members}
-use Rattle.awari_play.proofs.weighing.push_move.Goals as goal
+use Rattle.awari_shown.specs.Moves.{is_planned, plan_mark, worth_members}
+use Rattle.awari_shown.proofs.moves.push_move.Goals as goal
 
 pub returns-clause-items : goal.returns-clause-items
 returns-clause-items c =

@@ -3,9 +3,9 @@ use Rattle.std.specs.Prelude.{codes}
 use Rattle.awari_members.proofs.JsonLaws.{append_two}
 use Rattle.awari_members.specs.Json.{json_string}
 use Rattle.awari_members.specs.Members.{Named, marked, number, said}
-use Rattle.awari_play.proofs.JsonLaws.{refusal_json-parts}
+use Rattle.awari_shown.proofs.JsonLaws.{refusal_json-parts}
 use Rattle.awari_members.specs.declared.forms.Form.TheVariants.{Json}
-use Rattle.awari_play.proofs.json.refusal_json.Goals as goal
+use Rattle.awari_shown.proofs.json.refusal_json.Goals as goal
 
 pub returns : goal.returns
 returns c =

@@ -2,7 +2,7 @@
 use Rattle.std.specs.Prelude.{ℕ, List, [], ◌∷◌, ◌++◌, map, codes, Option}
 use Rattle.awari_members.specs.Json.{array, json_string}
 use Rattle.awari_members.specs.Members.{Named, board, line_text, number, pit, signed, text, truth}
-use Rattle.awari_play.specs.Worths.{is_planned, worth_members}
+use Rattle.awari_shown.specs.Moves.{is_planned, worth_members}
 use Rattle.awari_play.specs.declared.weighing.Weighed.{Weighed}
 use Rattle.awari_play.specs.declared.weighing.WeighedMove.{WeighedMove}
 use Rattle.awari_members.specs.declared.forms.Form.TheVariants.{Json}

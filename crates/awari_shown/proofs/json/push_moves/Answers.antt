@@ -1,9 +1,9 @@
 use Rattle.std.proofs.Common.{◌∙◌, ◌++◌, ap, arith, map}
 use Rattle.std.proofs.lemmas.List.{get_or_default, take_all}
 use Rattle.awari_members.specs.Json.{commas}
-use Rattle.awari_play.specs.Json.{move_json}
+use Rattle.awari_shown.specs.Json.{move_json}
 use Rattle.awari_members.proofs.JsonLaws.{commas-behind}
-use Rattle.awari_play.proofs.json.push_moves.Goals as goal
+use Rattle.awari_shown.proofs.json.push_moves.Goals as goal
 
 pub loop-index-preserved : goal.loop-index-preserved
 loop-index-preserved c =

@@ -4,8 +4,8 @@ use Rattle.std.specs.Prelude.{codes}
 use Rattle.awari_members.proofs.MemberLaws.{json-line, marked-append}
 use Rattle.awari_members.specs.Json.{commas, json_string}
 use Rattle.awari_members.specs.Members.{Named, board, line_text, marked, number, pit, signed, text, truth}
-use Rattle.awari_play.specs.Json.{entry_json, entry_members, move_json, moves_member, refusal_json, request_member, weighed_json}
-use Rattle.awari_play.specs.Worths.{is_planned, replies_members, worth_members}
+use Rattle.awari_shown.specs.Json.{entry_json, entry_members, move_json, moves_member, refusal_json, request_member, weighed_json}
+use Rattle.awari_shown.specs.Moves.{is_planned, replies_members, worth_members}
 use Rattle.awari_play.specs.declared.weighing.Weighed.{Weighed}
 use Rattle.awari_play.specs.declared.weighing.WeighedMove.{WeighedMove}
 use Rattle.awari_members.specs.declared.forms.Form.TheVariants.{Json}

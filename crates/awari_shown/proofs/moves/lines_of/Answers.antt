@@ -1,8 +1,8 @@
 use Rattle.std.proofs.Common.{arith, rules}
 use Rattle.std.proofs.lemmas.List.{get_or_default}
-use Rattle.awari_play.specs.Worths.{move_lines}
-use Rattle.awari_play.proofs.WorthLines.{move_lines-more}
-use Rattle.awari_play.proofs.weighing.lines_of.Goals as goal
+use Rattle.awari_shown.specs.Moves.{move_lines}
+use Rattle.awari_shown.proofs.MoveLines.{move_lines-more}
+use Rattle.awari_shown.proofs.moves.lines_of.Goals as goal
 
 pub loop-weighed-init : goal.loop-weighed-init
 unfolding move_lines

@@ -4,14 +4,15 @@ ghost use Rattle.std.specs.Prelude.{◌≡◌, ◌≤◌, ◌+◌, ◌++◌, cod
 ghost use Rattle.arrayvec.specs.ArrayVec.{array_vec_len};
 ghost use Rattle.awari_members.specs.Json.{commas};
 ghost use Rattle.awari_members.specs.Members.{marked};
-ghost use Rattle.awari_play.specs.Json.{entry_json, entry_members, move_json, refusal_json, weighed_json};
+ghost use Rattle.awari_shown.specs.Json.{entry_json, entry_members, move_json, refusal_json, weighed_json};
 ghost use Rattle.awari_members.specs.declared.forms.Form.TheVariants as form;
 
-use crate::weighing::{Weighed, WeighedMove, is_planned, push_worth};
+use crate::moves::{is_planned, push_worth};
 use awari_board::Board;
 use awari_members::{
     ANSWER_ROOM, AnswerText, Form, Member, push_bytes, push_comma, push_members, push_string,
 };
+use awari_play::{Weighed, WeighedMove};
 use awari_table::Entry;
 
 /// The line of a board and its entry. It takes no memory.

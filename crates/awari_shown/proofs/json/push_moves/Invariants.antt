@@ -1,8 +1,8 @@
 use Rattle.std.proofs.Common.{◌≡◌, ◌≤◌, ◌+◌, ◌*◌, ◌++◌, map, take}
 use Rattle.arrayvec.specs.ArrayVec.{array_vec_len}
 use Rattle.awari_members.specs.Json.{commas}
-use Rattle.awari_play.specs.Json.{move_json}
-use Rattle.awari_play.proofs.json.push_moves.Given as goal
+use Rattle.awari_shown.specs.Json.{move_json}
+use Rattle.awari_shown.proofs.json.push_moves.Given as goal
 
 abbrev pub invariant-loop-index : goal.invariant-loop-index
 invariant-loop-index l = record {

@@ -2,9 +2,9 @@ use Rattle.std.proofs.Common.{◌∙◌, ◌∷◌, ◌++◌, [], ap}
 use Rattle.std.specs.Prelude.{codes}
 use Rattle.awari_members.proofs.JsonLaws.{append_two}
 use Rattle.awari_members.specs.Members.{Named, marked, truth}
-use Rattle.awari_play.proofs.JsonLaws.{move_json-parts}
+use Rattle.awari_shown.proofs.JsonLaws.{move_json-parts}
 use Rattle.awari_members.specs.declared.forms.Form.TheVariants.{Json}
-use Rattle.awari_play.proofs.json.push_move.Goals as goal
+use Rattle.awari_shown.proofs.json.push_move.Goals as goal
 
 pub returns-clause-items : goal.returns-clause-items
 returns-clause-items c =

@@ -1,0 +1,2 @@
+pub mod MoveLines
+pub mod JsonLaws
