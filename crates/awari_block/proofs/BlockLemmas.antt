@@ -289,13 +289,12 @@ put_stays start cells rank c low high keeps r low' = elim (cases_eq r rank) [
   | inr other ↦ keeps_same (cell_in start cells r) (cell_in start (set cells (rank - start) c) r) (cell_in-other start cells rank r c low low' other)
 ]
 
--- and what the cells say of the fresh boards
+-- and the scores of the fresh boards
 pub put_keeps : (stake : Stake) (start : ℕ) (cells : List Cell) (fresh : List Due) (rank : ℕ) (c : Cell) → start ≤ rank → rank - start < length cells → IsBlock stake start cells fresh
     → Keeps (cell_in start cells rank) c → KeepFresh start cells (set cells (rank - start) c) fresh
 put_keeps stake start cells fresh rank c low high sound keeps = record {
   size = length-set cells (rank - start) c;
   same = λ k d h.
       let inside = settled_inside start cells (due_rank (get_or fresh k d)) (All-from_recursion _ fresh (due_settled (is_settled_in start cells) fresh sound.settled) k d h) in
-      let kept = put_stays start cells rank c low high keeps (due_rank (get_or fresh k d)) inside.0 inside.2 in
-      (kept.1, kept.2);
+      (put_stays start cells rank c low high keeps (due_rank (get_or fresh k d)) inside.0 inside.2).1;
 }

@@ -14,7 +14,7 @@ use Rattle.std.specs.declared.cmp.Ordering.{Ordering}
 use Rattle.std.specs.declared.cmp.Ordering.TheVariants.{Less, Equal, Greater}
 use Rattle.std.specs.declared.cmp.Reverse.{Reverse}
 use Rattle.awari_block.specs.Blocks.{Due, due_dist, due_rank}
-use Rattle.awari_block.specs.FreshHeap.{due_cmp, due_in, IsFirstOf}
+use Rattle.awari_block.specs.FreshHeap.{due_cmp, due_in}
 use Rattle.awari_block.specs.Part.{Part, AreFresh, InBlock, IsFreshIn, IsLeastDue, settled_at}
 
 -- what comes first decides unless it is `Equal`
@@ -29,6 +29,10 @@ same_cmp a b e = grind (arith, nat_tests)
 -- g is not before f
 abbrev IsNotBefore : Due → Due → Type 0
 IsNotBefore f g = (due_dist f ≤ due_dist g) × (due_dist g ≡ due_dist f → due_rank f ≤ due_rank g)
+
+-- none of these comes before this one
+abbrev pub IsFirstOf : Due → List Due → Type 0
+IsFirstOf f fresh = All (IsNotBefore f) fresh
 
 not_before : (f g : Due) → is_lt (due_cmp g f) ≡ false → IsNotBefore f g
 not_before f g h =

@@ -1,5 +1,5 @@
 -- The fresh boards of a block in a heap, as owners keep them.
-use Rattle.std.specs.Prelude.{◌≡◌, ◌≤◌, List, length, map, All}
+use Rattle.std.specs.Prelude.{◌≤◌, List, length, map}
 use Rattle.std.specs.BinaryHeap.{IsHeap, heap_capacity, heap_items}
 use Rattle.std.specs.Ordering.{nat_cmp, ordering_then}
 use Rattle.std.specs.declared.cmp.Ordering.{Ordering}
@@ -22,7 +22,3 @@ fresh_of fresh = map due_in (heap_items fresh.heap)
 pub record IsInOrder (cells : List Cell) (fresh : InOrder) : Type 0 where
   pub room : length cells ≤ heap_capacity fresh.heap
   pub ordered : IsHeap (λ a b. due_cmp (due_in b) (due_in a)) (heap_items fresh.heap)
-
--- none of these comes before this one
-abbrev pub IsFirstOf : Due → List Due → Type 0
-IsFirstOf f fresh = All (λ g. (due_dist f ≤ due_dist g) × (due_dist g ≡ due_dist f → due_rank f ≤ due_rank g)) fresh

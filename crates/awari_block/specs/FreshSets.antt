@@ -7,10 +7,10 @@ use Rattle.awari_block.specs.declared.cells.Cell.{Cell}
 use Rattle.awari_block.specs.declared.notes.Kind.{Kind}
 use Rattle.awari_block.specs.declared.stakes.Stake.{Stake}
 
--- other cells say the same of these boards
+-- other cells say the same scores of these boards
 pub record KeepFresh (start : ℕ) (cells after : List Cell) (fresh : List Due) : Type 0 where
   pub size : length after ≡ length cells
-  pub same : All (λ f. ((cell_in start after (due_rank f)).score ≡ (cell_in start cells (due_rank f)).score) × ((cell_in start after (due_rank f)).dist ≡ (cell_in start cells (due_rank f)).dist)) fresh
+  pub same : All (λ f. (cell_in start after (due_rank f)).score ≡ (cell_in start cells (due_rank f)).score) fresh
 
 -- A block of these cells may get this one for that of a board that is not among the fresh ones, and settle it.
 pub record CanJoin {F : Type 0} (dues : F → List Due) (is_right : ℕ → List Cell → F → Type 0) (start : ℕ) (cells : List Cell) (fresh : F) (rank : ℕ) (cell : Cell) : Type 0 where

@@ -38,7 +38,7 @@ pub trait FreshSet: Drop {
         ensures stays { OnErr result ((start : ℕ) (cells : List CellView) → right start cells self.old → right start cells self.new) }
         ensures same { OnErr result (dues self.new ≡ dues self.old) };
 
-    /// A law, and no code. What cells say of boards that are not fresh does not matter.
+    /// A law, and no code. Of the cells, the scores of the fresh boards alone matter.
     fn depend_on_their_cells()
         ensures { (start : ℕ) (cells after : List CellView) (fresh : Self) → KeepFresh start cells after (dues fresh) → right start cells fresh → right start after fresh };
 }

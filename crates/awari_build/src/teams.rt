@@ -9,7 +9,7 @@ const LEVELS_OF_REST: u8 = 3;
 
 /// Levels below this one are built by one thread. More would gain little, and on a busy machine they
 /// wait for each other longer than they work.
-const LEAST_LEVEL: u8 = 13;
+const LEAST_LEVEL: u8 = 11;
 
 /// The most threads that share the work.
 pub(crate) const MOST_MEMBERS: u8 = 16;

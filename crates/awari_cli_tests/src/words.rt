@@ -133,7 +133,6 @@ const COMMANDS: [&str; 16] = [
 fn most_lines(command: &str) -> usize {
     match command {
         "boards" => 45,
-        "counts" => 25,
         _ => 24,
     }
 }

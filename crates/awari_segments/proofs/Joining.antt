@@ -37,12 +37,12 @@ put_dues ls after dist rank is = subst (λ (xs : List (List ℕ)). IsPermutation
 -- where other cells say the same of the fresh boards
 pub signed_stays : (start : ℕ) (cells after : List Cell) (fresh : ByDistance) → KeepFresh start cells after (listed_of fresh) → AreSigned start cells fresh → AreSigned start after fresh
 signed_stays start cells after fresh keep signed = record {
-  lost = λ k d h. subst IsBelowZero (sym (All-append_first Same (dues_of fresh.lost) (dues_of fresh.won) keep.same k d h).0) (signed.lost k d h);
-  won = λ k d h. subst IsAboveZero (sym (All-append_second Same (dues_of fresh.lost) (dues_of fresh.won) keep.same k d h).0) (signed.won k d h);
+  lost = λ k d h. subst IsBelowZero (sym (All-append_first Same (dues_of fresh.lost) (dues_of fresh.won) keep.same k d h)) (signed.lost k d h);
+  won = λ k d h. subst IsAboveZero (sym (All-append_second Same (dues_of fresh.lost) (dues_of fresh.won) keep.same k d h)) (signed.won k d h);
 }
   where
     Same : Due → Type 0
-    Same f = ((cell_in start after (due_rank f)).score ≡ (cell_in start cells (due_rank f)).score) × ((cell_in start after (due_rank f)).dist ≡ (cell_in start cells (due_rank f)).dist)
+    Same f = (cell_in start after (due_rank f)).score ≡ (cell_in start cells (due_rank f)).score
 
 -- a board joins the lost ones, or the won ones
 module _ (fresh : ByDistance) (rank dist : ℕ) where

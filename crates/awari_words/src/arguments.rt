@@ -6,7 +6,7 @@ ghost use Rattle.awari_words.specs.Commands.{board, csv, flag, folder, folder_wo
 ghost use Rattle.awari_words.specs.Making.{IsArg};
 
 use awari_pace::{MOST_OWNERS, MOST_ROOM, MOST_SWEEPS};
-use awari_table::HIGHEST_LEVEL;
+use awari_rank::MOST_STONES;
 use clap::builder::ValueParser;
 use clap::{Arg, ArgAction, value_parser};
 use std::alloc::Global;
@@ -49,7 +49,7 @@ pub(crate) fn top<'a>(alloc: Global) -> Arg<'a>
 {
     Arg::new(alloc, "TOP")
         .required(true)
-        .value_parser(ValueParser::unsigned(0, u64::from(HIGHEST_LEVEL)))
+        .value_parser(ValueParser::unsigned(0, u64::from(MOST_STONES)))
         .help("The highest level to build, 0 to 24")
 }
 
@@ -122,7 +122,7 @@ pub(crate) fn level<'a>(alloc: Global) -> Arg<'a>
     ensures { IsArg result level }
 {
     Arg::new(alloc, "LEVEL")
-        .value_parser(ValueParser::unsigned(0, u64::from(HIGHEST_LEVEL)))
+        .value_parser(ValueParser::unsigned(0, u64::from(MOST_STONES)))
         .help("The one level to tell of, 0 to 24; without it all are")
 }
 
@@ -148,7 +148,7 @@ pub(crate) fn served_top<'a>(alloc: Global) -> Arg<'a>
     ensures { IsArg result (number_or_0 (codes "TOP") levels) }
 {
     let top = Arg::new(alloc, "TOP").default_value("0");
-    top.value_parser(ValueParser::unsigned(0, u64::from(HIGHEST_LEVEL)))
+    top.value_parser(ValueParser::unsigned(0, u64::from(MOST_STONES)))
         .help("The highest level to build meanwhile, 0 to 24")
 }
 
@@ -175,7 +175,7 @@ pub(crate) fn listed_level<'a>(alloc: Global) -> Arg<'a>
 {
     Arg::new(alloc, "LEVEL")
         .required(true)
-        .value_parser(ValueParser::unsigned(0, u64::from(HIGHEST_LEVEL)))
+        .value_parser(ValueParser::unsigned(0, u64::from(MOST_STONES)))
         .help("The stones on each board, 0 to 24")
 }
 
@@ -280,6 +280,6 @@ pub(crate) fn levels_wish<'a>(alloc: Global) -> Arg<'a>
     Arg::new(alloc, "levels")
         .long("levels")
         .value_name("TOP")
-        .value_parser(ValueParser::unsigned(0, u64::from(HIGHEST_LEVEL)))
+        .value_parser(ValueParser::unsigned(0, u64::from(MOST_STONES)))
         .help("Want just levels 0 to TOP: none missing, and none above")
 }

@@ -2,12 +2,12 @@
 //! but for `boards`, whose options alone are more.
 //! docs/MANUAL.md has more of each, and docs/FORMATS.md the numbers of its refusals.
 
-use awari_table::HIGHEST_LEVEL;
+use awari_rank::MOST_STONES;
 
 /// What `awari --version` says behind the program's name.
 pub const VERSION: &str = "0.1.0, levels 0 to 24";
 
-const _: () = prove!(HIGHEST_LEVEL == 24);
+const _: () = prove!(MOST_STONES == 24);
 
 pub const AWARI_HELP: &str = "\
 The status is 0 if it is done, 1 if something was refused, and 2 if no command
@@ -185,8 +185,7 @@ prints this level's line, and then how many boards have each value and distance:
     value 3 distance 5 boards 12    pairs, with LEVEL and --by value,distance
 
 --by takes two unlike ones of value, distance, plan (- if none), captures, moves
-and keep, else `refused 96 Column`. --csv prints tables: of all levels, of LEVEL
-or of the pairs of --by. docs/FORMATS.md lists the refusals.";
+and keep, else `refused 96 Column`. --csv prints tables: see docs/FORMATS.md.";
 
 pub const BOARDS_HELP: &str = "\
 It prints a line for each board that matches all options, by rank:

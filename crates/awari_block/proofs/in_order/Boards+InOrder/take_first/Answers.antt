@@ -4,10 +4,10 @@ use Rattle.std.specs.BinaryHeap.{heap_items}
 use Rattle.std.specs.List.Sorted.{IsPermutation}
 use Rattle.awari_block.specs.Blocks.{Due, due_rank, IsBlock}
 use Rattle.awari_block.specs.Boards.{TakesFirst}
-use Rattle.awari_block.specs.FreshHeap.{due_in, fresh_of, IsFirstOf}
+use Rattle.awari_block.specs.FreshHeap.{due_in, fresh_of}
 use Rattle.awari_block.specs.Part.{Part, IsLeastDue, part_of}
 use Rattle.awari_block.proofs.BlockLemmas.{first_due, popped}
-use Rattle.awari_block.proofs.FreshHeap.{first_least, first_moved, first_of_top}
+use Rattle.awari_block.proofs.FreshHeap.{first_least, first_moved, first_of_top, IsFirstOf}
 use Rattle.awari_block.proofs.Freshness.{fresh_of_block}
 use Rattle.awari_block.proofs.in_order.Boards+InOrder.take_first.Goals as goal
 
