@@ -30,11 +30,6 @@ level 0 boards 1 won 0 even 1 lost 0 limit 0
 refused 82 Open level 1
 ";
 
-const LEVEL_0_AND_OCCUPIED_1: &str = "\
-level 0 boards 1 won 0 even 1 lost 0 limit 0
-refused 85 Occupied level 1
-";
-
 const RIGHT_LEVELS_0_TO_1: &str = "\
 level 0 ok limit 0
 level 1 ok limit 1
@@ -165,19 +160,6 @@ fn expect_file(
     Ok(())
 }
 
-#[test]
-fn a_faulty_folder_stays_as_it_was(rt: HostRuntime) -> Result<(), Fail> {
-    let mut folder = memory_folder(rt.alloc());
-    expect_build(&rt, &mut folder, LEVELS_0_TO_1, 0);
-    let first = file_of(rt.alloc(), &mut folder, 0)?;
-    lay(&mut folder, 1, b"AWDB")?;
-    let printed = "refused 81 File level 1: 60 Truncated\n";
-    expect_build(&rt, &mut folder, printed, 1);
-    expect_verify(&rt, &mut folder, printed, 1);
-    expect_file(&rt, &mut folder, 0, &first)?;
-    expect_file(&rt, &mut folder, 1, b"AWDB")
-}
-
 /// A folder in which level 1 alone has a file, of these bytes.
 fn folder_with_a_gap(
     rt: &(impl Abort + AllocGlobal + Threads + Clock + Wait + Sync + Send + Clone + Drop + 'static),
@@ -211,36 +193,6 @@ fn a_right_file_above_a_gap_counts_as_saved(rt: HostRuntime) -> Result<(), Fail>
     expect_file(&rt, &mut folder, 0, &first)?;
     expect_file(&rt, &mut folder, 1, &second)?;
     expect_verify(&rt, &mut folder, RIGHT_LEVELS_0_TO_1, 0);
-    Ok(())
-}
-
-/// A file above a gap that is not the right one is not replaced.
-fn expect_occupied(
-    rt: &(impl Abort + AllocGlobal + Threads + Clock + Wait + Sync + Send + Clone + Drop + 'static),
-    first: &[u8],
-    other: &[u8],
-) -> Result<(), Fail> {
-    let mut folder = folder_with_a_gap(rt, other)?;
-    expect_build(rt, &mut folder, LEVEL_0_AND_OCCUPIED_1, 1);
-    expect_no_draft(rt, &folder);
-    expect_file(rt, &mut folder, 0, first)?;
-    expect_file(rt, &mut folder, 1, other)
-}
-
-#[test]
-fn another_file_above_a_gap_stays(rt: HostRuntime) -> Result<(), Fail> {
-    let (first, second) = two_files(&rt)?;
-    let cut = second.get(..155).ok_or("a file of 156 bytes")?;
-    expect_occupied(&rt, &first, cut)?;
-    expect_occupied(&rt, &first, b"")?;
-    let mut longer = second.to_vec(rt.alloc())?;
-    longer.push(0)?;
-    expect_occupied(&rt, &first, &longer)?;
-    for place in [0, 19, 20, 52, 123, 124, 155] {
-        let mut changed = second.to_vec(rt.alloc())?;
-        *changed.get_mut(place).ok_or("a place in the file")? ^= 1;
-        expect_occupied(&rt, &first, &changed)?;
-    }
     Ok(())
 }
 

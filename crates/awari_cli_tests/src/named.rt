@@ -1,10 +1,8 @@
 //! The program over a host whose folders are known: each command finds what lies in the folder that it
 //! names, and writes there alone.
 
-use crate::commands::Line;
 use crate::expect::expect_equal;
 use crate::hosts::MemoryHost;
-use crate::levels::{LEVELS_0_TO_1, LEVELS_0_TO_2, NO_LEVELS};
 use awari_cli::{Streams, run};
 use std::alloc::Global;
 use std::process::Abort;
@@ -12,6 +10,24 @@ use std::sync::Wait;
 use std::thread::Threads;
 use std::time::Clock;
 use std::{io, str};
+
+/// Words of the program, what it prints of them, and its status.
+type Line = (&'static [&'static str], &'static str, u8);
+
+const LEVELS_0_TO_1: &str = "\
+level 0 boards 1 won 0 even 1 lost 0 limit 0
+level 1 boards 12 won 5 even 0 lost 7 limit 1
+";
+
+const LEVELS_0_TO_2: &str = "\
+level 0 boards 1 won 0 even 1 lost 0 limit 0
+level 1 boards 12 won 5 even 0 lost 7 limit 1
+level 2 boards 78 won 24 even 13 lost 41 limit 9
+";
+
+const NO_LEVELS: &str = "\
+levels 0 digest 0000000000000000000000000000000000000000000000000000000000000000
+";
 
 const RIGHT_LEVELS_0_TO_2: &str = "\
 level 0 ok limit 0

@@ -1,13 +1,10 @@
 //! How far a build is, as `build --progress` tells it.
 
-use crate::expect::{expect, expect_equal};
-use crate::levels::LEVELS_0_TO_2;
-use crate::plain::{build_telling, run_on_disk};
-use awari_cli::{BuildProgress, HowTold, ProgressLines, Streams};
+use crate::expect::expect_equal;
+use crate::plain::build_telling;
+use awari_cli::{BuildProgress, HowTold, ProgressLines};
 use awari_heard::{Progress, Told};
-use std::fs::File;
 use std::process::Abort;
-use std::rt::Files;
 use std::sync::Wait;
 use std::sync::atomic::{AtomicU64, Ordering};
 use std::thread::Threads;
@@ -148,41 +145,4 @@ fn a_line_stays_on_a_terminal_between_those_of_the_next_level(rt: HostRuntime) {
     lines.hear(Told::Settled { gain: 1, boards: 0 });
     lines.hear(Told::Planned);
     expect_equal(&rt, "told", str::from_utf8(&errors), Ok(BESIDE_A_LINE));
-}
-
-/// Whether anything is told on the error stream of levels that are built with these words.
-fn tells(
-    rt: &(impl Abort
-        + Files<File = File>
-        + Threads
-        + Clock
-        + Wait
-        + Sync
-        + Send
-        + Clone
-        + Drop
-        + AllocGlobal
-        + 'static),
-    words: &[&str],
-) -> bool {
-    let mut streams = Streams {
-        input: io::empty(),
-        output: Vec::new(rt.alloc()),
-        errors: Vec::new(rt.alloc()),
-    };
-    let status = run_on_disk(rt, rt.alloc(), words, &mut streams);
-    expect_equal(rt, "status", status, 0);
-    let printed = str::from_utf8(&streams.output);
-    expect_equal(rt, "lines", printed, Ok(LEVELS_0_TO_2));
-    !streams.errors.is_empty()
-}
-
-/// The lines on the output are the same, without owners and by them.
-#[test]
-fn progress_is_told_where_it_is_asked_for(rt: HostRuntime) {
-    expect(&rt, "silent", !tells(&rt, &["awari", "build", "2"]));
-    let words = ["awari", "build", "2", "--progress"];
-    expect(&rt, "no owners", tells(&rt, words.as_slice()));
-    let words = ["awari", "build", "--progress", "2", "--owners", "2"];
-    expect(&rt, "two owners", tells(&rt, words.as_slice()));
 }

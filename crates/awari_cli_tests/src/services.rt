@@ -1,26 +1,16 @@
-//! The command `serve`, and the service of a desk on streams that fail.
+//! The service of a desk, also on streams that fail.
 
 ghost use Rattle.std.specs.Prelude.{◌≡◌, IfOk};
 
-use crate::commands::{Line, expect_lines, expect_run};
 use crate::expect::{expect, expect_equal};
-use crate::levels::{LEVELS_0_TO_1, LEVELS_0_TO_2, empty_folder};
-use crate::plain::run_on_disk;
-use crate::worths::LEVELS_3_TO_4;
 use awari_build::build_alone;
-use awari_cli::Streams;
 use awari_desk::{Publisher, Reader, ServeFault, desk, serve};
 use awari_streams::Counted;
 use std::alloc::Global;
-use std::fs::File;
 use std::io::{self, ErrorKind, Read, Write};
 use std::process::Abort;
-use std::rt::Files;
 use std::sync::{Arc, Wait};
 use std::test::Fail;
-use std::thread::Threads;
-use std::time::Clock;
-use std::{fs, str};
 
 const INPUT: &str = "\
 seen
@@ -72,15 +62,13 @@ seen 2
 "#;
 
 /// Lines, and what is written of them by a reader that knows levels 0 and 1.
-pub(crate) type Lines = (&'static str, &'static str);
+type Lines = (&'static str, &'static str);
 
 const WORKED: Lines = (INPUT, OUTPUT);
 
 const MOVES: Lines = (MOVES_INPUT, MOVES_OUTPUT);
 
 const PROBES: Lines = (PROBES_INPUT, PROBES_OUTPUT);
-
-const ASK_CYCLE: &str = "ask 1,0,0,0,0,0/1,0,0,0,0,0\n";
 
 /// What a stream answers at a bad call.
 #[derive(Clone, Copy, Debug)]
@@ -234,7 +222,7 @@ fn expect_bytes(rt: &impl Abort, failing: Failing, written: &[u8], expected: &[u
 }
 
 /// Requests, and what is written of them by a reader that knows levels 0 and 1.
-pub(crate) const REQUESTS: [Lines; 8] = [
+const REQUESTS: [Lines; 8] = [
     WORKED,
     MOVES,
     PROBES,
@@ -469,127 +457,5 @@ fn more_bytes_than_a_service_takes(rt: HostRuntime) -> Result<(), Fail> {
     tell_two(rt.alloc(), &mut publisher, &mut reader)?;
     expect_too_long(&rt, rt.alloc(), &mut reader);
     publisher.close();
-    Ok(())
-}
-
-/// Asks for a board of level 2 many times while that level is built by three owners: once there is an
-/// answer, there is one to each further line.
-fn expect_growing(
-    rt: &(impl Abort
-        + Files<File = File>
-        + Threads
-        + Clock
-        + Wait
-        + Sync
-        + Send
-        + Clone
-        + Drop
-        + 'static),
-    alloc: Global,
-) -> Result<(), Fail> {
-    let input = ASK_CYCLE.repeat(alloc, 2000)?;
-    let words = ["awari", "serve", SERVED, "2", "3"];
-    let mut streams = Streams {
-        input: input.as_bytes(),
-        output: Vec::new(alloc),
-        errors: io::sink(),
-    };
-    let status = run_on_disk(rt, alloc, words.as_slice(), &mut streams);
-    expect_equal(rt, "status", status, 0);
-    expect_answers(rt, str::from_utf8(streams.output.as_slice())?);
-    Ok(())
-}
-
-/// Of 2000 lines the first ones are `not yet 2`, and from the first answer on all are answers.
-fn expect_answers(rt: &impl Abort, text: &str) {
-    let known = text.lines().skip_while(|line| *line == "not yet 2");
-    expect(rt, text, text.lines().count() == 2000);
-    for line in known {
-        expect_equal(rt, "once there is an answer", line, "0 0 0");
-    }
-}
-
-const SERVED: &str = "awari_cli_test_served";
-
-const BUILT: [Line; 1] = [(
-    &["awari", "build", "1", "--folder", SERVED],
-    LEVELS_0_TO_1,
-    0,
-)];
-
-/// Builds two levels into the folder, serves them, and then builds a third while it serves.
-fn expect_service(
-    rt: &(impl Abort
-        + Files<File = File>
-        + Threads
-        + Clock
-        + Wait
-        + Sync
-        + Send
-        + Clone
-        + Drop
-        + 'static),
-    alloc: Global,
-) -> Result<(), Fail> {
-    expect_lines(rt, alloc, &BUILT);
-    let words = ["awari", "serve", SERVED, "1", "0"];
-    expect_run(rt, alloc, &words, INPUT.as_bytes(), OUTPUT, 0);
-    expect_growing(rt, alloc)
-}
-
-#[test]
-fn a_folder_is_served(rt: HostRuntime) -> Result<(), Fail> {
-    empty_folder(&rt, SERVED)?;
-    expect_service(&rt, rt.alloc())?;
-    fs::remove_dir_all(&rt, SERVED)?;
-    Ok(())
-}
-
-const WEIGHED: &str = "awari_cli_test_served_moves";
-
-const FIVE_BUILT: [Line; 2] = [
-    (
-        &["awari", "build", "2", "--folder", WEIGHED],
-        LEVELS_0_TO_2,
-        0,
-    ),
-    (
-        &["awari", "build", "4", "--folder", WEIGHED],
-        LEVELS_3_TO_4,
-        0,
-    ),
-];
-
-/// The board of README.md is asked of a folder with its level, and what is said there is the answer.
-fn expect_moves(
-    rt: &(impl Abort
-        + Files<File = File>
-        + Threads
-        + Clock
-        + Wait
-        + Sync
-        + Send
-        + Clone
-        + Drop
-        + 'static),
-    alloc: Global,
-) {
-    let words = ["awari", "serve", WEIGHED, "4", "0"];
-    let input = b"moves 1,0,0,0,0,1/1,0,1,0,0,0\nseen\n";
-    let output = "\
-pit 0 captures 0 value -4 distance 13
-pit 5 captures 2 value 4 distance 1 plan
-
-seen 5
-";
-    expect_run(rt, alloc, &words, input, output, 0);
-}
-
-#[test]
-fn moves_are_served(rt: HostRuntime) -> Result<(), Fail> {
-    empty_folder(&rt, WEIGHED)?;
-    expect_lines(&rt, rt.alloc(), &FIVE_BUILT);
-    expect_moves(&rt, rt.alloc());
-    fs::remove_dir_all(&rt, WEIGHED)?;
     Ok(())
 }

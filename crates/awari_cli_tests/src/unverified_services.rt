@@ -3,9 +3,7 @@
 use crate::calls::{lay, two_files};
 use crate::commands::Broken;
 use crate::expect::expect_equal;
-use crate::levels::empty_folder;
 use crate::plain::{memory_folder, refuse, served_said};
-use crate::services::REQUESTS;
 use awari_cli::{Replies, Streams};
 use awari_file_tests::MemoryFolder;
 use awari_folder::{Folder, HostFolder};
@@ -21,51 +19,11 @@ use std::test::Fail;
 use std::thread::Threads;
 use std::time::Clock;
 
-/// The board of rank 6 of level 1, whose value is -1, asked for by each request.
-const EACH_REQUEST: &str = "\
+/// The board of rank 6 of level 1, whose value is -1, asked for by two requests.
+const TWO_REQUESTS: &str = "\
 ask 0,0,0,0,0,1/0,0,0,0,0,0
 moves 0,0,0,0,0,1/0,0,0,0,0,0
-replies 0,0,0,0,0,1/0,0,0,0,0,0
-probe 0,0,0,0,0,1/0,0,0,0,0,0
-seen
 ";
-
-const NO_LEVEL: &str = r#"not yet 0
-not yet 0
-not yet 0
-{"request":"probe 0,0,0,0,0,1/0,0,0,0,0,0","refused":74,"name":"NotYet"}
-seen 0
-"#;
-
-const LEVEL_0_ALONE: &str = r#"not yet 1
-not yet 1
-not yet 1
-{"request":"probe 0,0,0,0,0,1/0,0,0,0,0,0","refused":74,"name":"NotYet"}
-seen 1
-"#;
-
-/// What is said if the plan of the board's entry is no pit.
-const NO_PLAN: &str = r#"refused 81 File level 1: 65 EntryForm
-refused 81 File level 1: 65 EntryForm
-refused 81 File level 1: 65 EntryForm
-{"request":"probe 0,0,0,0,0,1/0,0,0,0,0,0","refused":81,"name":"File"}
-seen 2
-"#;
-
-/// What is said if the board's value stands there as 1, which is wrong.
-const WRONG_VALUE: &str = r#"1 5 1
-pit 5 captures 0 value -1 distance 1 plan
-
-pit 5 captures 0 value -1 distance 1 replies 0 keep 0 plan
-
-{"board":"0,0,0,0,0,1/0,0,0,0,0,0","value":1,"plan":5,"distance":1,"moves":[{"pit":5,"captures":0,"value":-1,"distance":1,"plan":true}]}
-seen 2
-"#;
-
-/// Where the value and the plan of that board stand in the file of level 1.
-const VALUE_PLACE: usize = 88;
-
-const PLAN_PLACE: usize = 89;
 
 /// Serves lines by what the files say, and compares what is printed and the status.
 fn expect_said<F: Folder>(
@@ -102,60 +60,6 @@ fn folder_of(alloc: Global, first: &[u8], second: &[u8]) -> Result<MemoryFolder,
     Ok(folder)
 }
 
-#[test]
-fn right_files_answer_as_their_levels_do(rt: HostRuntime) -> Result<(), Fail> {
-    let mut folder = right_folder(&rt)?;
-    for (input, output) in &REQUESTS {
-        expect_said(&rt, &mut folder, input.as_bytes(), output, 0);
-    }
-    Ok(())
-}
-
-#[test]
-fn a_folder_without_levels_is_served(rt: HostRuntime) {
-    let mut folder = memory_folder(rt.alloc());
-    expect_said(&rt, &mut folder, EACH_REQUEST.as_bytes(), NO_LEVEL, 0);
-}
-
-/// Level 2 is not looked at, since level 1 is not there.
-#[test]
-fn levels_above_a_gap_are_not_known(rt: HostRuntime) -> Result<(), Fail> {
-    let (first, _) = two_files(&rt)?;
-    let mut folder = memory_folder(rt.alloc());
-    lay(&mut folder, 0, &first)?;
-    lay(&mut folder, 2, b"AWDB")?;
-    expect_said(&rt, &mut folder, EACH_REQUEST.as_bytes(), LEVEL_0_ALONE, 0);
-    Ok(())
-}
-
-#[test]
-fn a_file_of_another_form_is_refused_at_once(rt: HostRuntime) -> Result<(), Fail> {
-    let (first, _) = two_files(&rt)?;
-    let mut folder = folder_of(rt.alloc(), &first, b"AWDB")?;
-    let printed = "refused 81 File level 1: 60 Truncated\n";
-    expect_said(&rt, &mut folder, EACH_REQUEST.as_bytes(), printed, 1);
-    Ok(())
-}
-
-/// Serves files of which that of level 1 has this byte at this place.
-fn expect_changed(
-    rt: &(impl Abort + AllocGlobal + Threads + Clock + Wait + Sync + Send + Clone + Drop + 'static),
-    (place, byte): (usize, u8),
-    printed: &str,
-) -> Result<(), Fail> {
-    let (first, mut second) = two_files(rt)?;
-    *second.get_mut(place).ok_or("a place in the file")? = byte;
-    let mut folder = folder_of(rt.alloc(), &first, &second)?;
-    expect_said(rt, &mut folder, EACH_REQUEST.as_bytes(), printed, 0);
-    Ok(())
-}
-
-#[test]
-fn entries_are_told_as_they_stand(rt: HostRuntime) -> Result<(), Fail> {
-    expect_changed(&rt, (VALUE_PLACE, 1), WRONG_VALUE)?;
-    expect_changed(&rt, (PLAN_PLACE, 9), NO_PLAN)
-}
-
 /// The headers of levels 0 and 1 are the first two calls, and the third finds no file of level 2.
 #[test]
 fn a_call_that_is_refused_ends_no_service(rt: HostRuntime) -> Result<(), Fail> {
@@ -166,7 +70,7 @@ refused 82 Open level 1
 pit 5 captures 0 value -1 distance 1 plan
 
 ";
-    let input = EACH_REQUEST.as_bytes().get(..58).unwrap_or(b"");
+    let input = TWO_REQUESTS.as_bytes();
     expect_said(&rt, &mut folder, input, printed, 0);
     refuse(&mut folder, 1);
     expect_said(&rt, &mut folder, input, "refused 82 Open level 0\n", 1);
@@ -202,6 +106,12 @@ fn expect_no_writer(rt: &impl Abort, folder: &mut MemoryFolder) {
 const FOLDER: &str = "awari_cli_test_unverified_service";
 
 const SECOND: &str = "awari_cli_test_unverified_service/level_01.awdb";
+
+/// A new folder of this name.
+fn empty_folder(rt: &(impl Files + AllocGlobal), folder: &str) -> io::Result<()> {
+    let _ = fs::remove_dir_all(rt, folder);
+    fs::create_dir(rt, folder)
+}
 
 /// Gives a line, cuts the file of level 1, and gives the line again.
 #[derive(Drop)]
