@@ -1,36 +1,13 @@
 """The texts that rows name, which stand for an input or an output.
 
-Levels 0 to 2 were worked by hand: each of their boards has at most one legal move. The texts of higher levels
-say what stands in the files of folders.py, as docs/FORMATS.md has it.
+Those of levels 0 to 2 were worked by hand. The others say what stands in the files of folders.py, as
+docs/FORMATS.md has it.
 """
 import functools
 
-from common import DIGEST, ENTRY, HEADER, boards_of
-from folders import files_of, name_of
-
-# what level 1 has, by rank
-LEVEL_1 = ["-1 - 0"] * 6 + ["-1 5 1"] + ["1 - 0"] * 5
-NO_PLAN = 255
-
-
-def across_level_2(low, high):
-    """The entry of a board whose mover has a stone in pit `low`, and the opponent one in pit `high`."""
-    across = high - 6
-    if low > across:
-        return -2, low, 11 - 2 * low
-    return (2, low, 12 - 2 * across) if across > low + 1 else (0, low, 0)
-
-
-def entry_of_level_2(pits):
-    """The entry of a board of level 2, by the lower and the higher pit of its two stones."""
-    low, *_, high = [pit for pit in range(12) for _ in range(pits[pit])]
-    if low > 5:
-        return -2, None, 0
-    if low == high and low > 3:
-        return -2, low, 1 if low == 5 else 3
-    if high == 5:
-        return (0, 5, 0) if low < 2 else (-2, 5, 13 - 2 * low)
-    return (2, None, 0) if high < 5 else across_level_2(low, high)
+from common import DIGEST, ENTRY, HEADER, boards_of, text
+from folders import NO_PLAN, files_of, name_of
+from worked import LEVELS
 
 
 def line(value, plan, distance):
@@ -38,39 +15,49 @@ def line(value, plan, distance):
     return f"{value} {'-' if plan is None else plan} {distance}"
 
 
-def worked():
-    """The text of levels 0 to 2, worked by hand."""
-    level_2 = [line(*entry_of_level_2(pits)) for pits in boards_of(2)]
-    return ["level 0 limit 0", "0 - 0", "level 1 limit 1", *LEVEL_1, "level 2 limit 9", *level_2]
+def lines(level, limit, entries):
+    """The lines of a level."""
+    return [f"level {level} limit {limit}", *(line(*entry) for entry in entries)]
 
 
 def block(file):
     """The lines of a level, from its file."""
     _, _, level, _, _, limit, _ = HEADER.unpack_from(file)
-    entries = ENTRY.iter_unpack(file[HEADER.size : -DIGEST])
-    lines = [line(value, None if plan == NO_PLAN else plan, distance) for value, plan, distance in entries]
-    return [f"level {level} limit {limit}", *lines]
+    packed = ENTRY.iter_unpack(file[HEADER.size : -DIGEST])
+    entries = [(value, None if plan == NO_PLAN else plan, distance) for value, plan, distance in packed]
+    return lines(level, limit, entries)
 
 
-def blocks(top, **changed):
-    """The lines of levels 0 to this one, of which the first board of the last may have another line."""
-    files = files_of(f"levels_0_to_{top}")
-    found = [block(files[name_of(level)]) for level in range(top + 1)]
-    found[-1][1] = changed.get("first", found[-1][1])
-    return [line for lines in found for line in lines]
+def blocks(folder):
+    """The lines of each level in a folder."""
+    files = files_of(folder)
+    return [block(files[name_of(level)]) for level in range(len(files))]
+
+
+def changed(top, first):
+    """The same of levels 0 to this one, with another line for the first board of the last."""
+    found = blocks(f"levels_0_to_{top}")
+    found[-1][1] = first
+    return found
+
+
+def boards(level):
+    """The boards of a level that was worked by hand, each with its entry."""
+    _, entries = LEVELS[level]
+    return [f"{text(pits)} {line(*entry)}" for pits, entry in zip(boards_of(level), entries)]
 
 
 TEXTS = {
-    "worked_levels_0_to_2": worked,
-    "levels_0_to_3": lambda: blocks(3),
+    "worked_levels_0_to_2": lambda: [lines(level, *worked) for level, worked in enumerate(LEVELS)],
+    "worked_boards_of_level_2": lambda: [boards(2)],
     # of the first board of level 3, whose mover has lost its three stones, another value
-    "levels_0_to_3_of_a_wrong_gain": lambda: blocks(3, first="-2 - 0"),
-    "levels_0_to_3_of_a_value_too_great": lambda: blocks(3, first="4 - 0"),
-    "levels_0_to_4": lambda: blocks(4),
+    "levels_0_to_3_of_a_wrong_gain": lambda: changed(3, "-2 - 0"),
+    "levels_0_to_3_of_a_value_too_great": lambda: changed(3, "4 - 0"),
 }
 
 
 @functools.cache
 def text_of(name):
-    """The text of this name."""
-    return "".join(f"{line}\n" for line in TEXTS[name]()).encode()
+    """The text of this name, or that of the folder of this name."""
+    found = TEXTS[name]() if name in TEXTS else blocks(name)
+    return "".join(f"{row}\n" for rows in found for row in rows).encode()

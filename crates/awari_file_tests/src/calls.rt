@@ -4,8 +4,10 @@ use crate::expect::{expect, expect_equal};
 use crate::levels::{digest_in, right_file, right_shelf, save_two};
 use crate::memory::MemoryFolder;
 use crate::plain::{
-    has_draft, keep_in, level_of, load_from, memory_folder, open, refuse, refuse_files, save_into,
+    bring_over, has_draft, keep_in, level_of, load_from, look_up, memory_folder, open, refuse,
+    refuse_files, save_into,
 };
+use awari_board::Board;
 use awari_file::FileFault;
 use awari_folder::FolderFault;
 use awari_table::Level;
@@ -226,5 +228,67 @@ fn a_file_that_is_there_is_kept(rt: HostRuntime) -> Result<(), Fail> {
         kept(&rt, level, [7; 32], 0)?,
         Err(occupied),
     );
+    Ok(())
+}
+
+/// Has the folder refuse this call of a look-up, which is for a file of this level.
+fn expect_call_refused(
+    rt: &impl Abort,
+    folder: &mut MemoryFolder,
+    board: Board,
+    (call, level): (u32, u8),
+) {
+    refuse(folder, call);
+    let refused = Err(FolderFault::Open { level });
+    expect_equal(rt, call, look_up(folder, board), refused);
+}
+
+#[test]
+fn each_call_of_a_look_up_is_refused(rt: HostRuntime) -> Result<(), Fail> {
+    let board = Board::parse(b"0,0,0,0,0,1/0,0,0,0,0,0")?;
+    let shelf = right_shelf(rt.alloc())?;
+    let mut folder = memory_folder(rt.alloc());
+    save_two(&mut folder, &shelf)?;
+    for call in [(1, 0), (2, 1), (3, 2), (4, 1)] {
+        expect_call_refused(&rt, &mut folder, board, call);
+    }
+    refuse(&mut folder, 5);
+    let right = shelf.entry(&board)?;
+    expect_equal(&rt, "behind it", look_up(&mut folder, board), Ok(right));
+    Ok(())
+}
+
+/// The levels of one folder are not brought over to another, since this level's file does not open in
+/// one of both.
+fn expect_not_brought(
+    rt: &(impl Abort + AllocGlobal),
+    from: &mut MemoryFolder,
+    to: &mut MemoryFolder,
+    level: u8,
+) {
+    let refused = bring_over(rt.alloc(), from, to).err();
+    let opens = FolderFault::Open { level };
+    expect_equal(rt, level, refused, Some(opens));
+}
+
+/// The levels are not brought over to a folder of which this call is refused, nor from one.
+fn expect_move_refused(rt: &(impl Abort + AllocGlobal), from: &mut MemoryFolder, call: u8) {
+    let mut to = memory_folder(rt.alloc());
+    refuse(&mut to, u32::from(call));
+    expect_not_brought(rt, from, &mut to, 0);
+    refuse(&mut to, 0);
+    refuse(from, u32::from(call));
+    let level = call.saturating_sub(1);
+    expect_not_brought(rt, from, &mut to, level);
+    // What was written before stands.
+    expect_equal(rt, call, levels_in(&mut to, rt.alloc()), Ok(level));
+}
+
+#[test]
+fn each_call_of_a_move_is_refused(rt: HostRuntime) -> Result<(), Fail> {
+    let mut from = folder_of_two(rt.alloc())?;
+    for call in 1..=3u8 {
+        expect_move_refused(&rt, &mut from, call);
+    }
     Ok(())
 }

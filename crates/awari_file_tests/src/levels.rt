@@ -3,7 +3,6 @@
 use crate::plain::{level_of, next_image, put_on, save_into, write};
 use awari_folder::Folder;
 use awari_table::{Counted, Shelf, TableText};
-use sha2::{Digest, Sha256};
 use std::alloc::Global;
 use std::test::Fail;
 
@@ -51,12 +50,7 @@ pub(crate) fn save_two(
 }
 
 /// The file of a level of the shelf, over a file that ends in this digest.
-pub(crate) fn file_of(
-    alloc: Global,
-    shelf: &Shelf,
-    number: u8,
-    below: [u8; 32],
-) -> Result<Vec<u8>, Fail> {
+fn file_of(alloc: Global, shelf: &Shelf, number: u8, below: [u8; 32]) -> Result<Vec<u8>, Fail> {
     let mut file = Vec::new(alloc);
     write(
         level_of(shelf, number)?,
@@ -89,19 +83,5 @@ pub(crate) fn digest_in(file: &[u8]) -> [u8; 32] {
 pub(crate) fn changed(alloc: Global, file: &[u8], place: usize, byte: u8) -> Result<Vec<u8>, Fail> {
     let mut bytes = file.to_vec(alloc)?;
     *bytes.get_mut(place).ok_or("a place in the file")? = byte;
-    Ok(bytes)
-}
-
-/// The file with this byte at this place, and the digest made right.
-pub(crate) fn digested(
-    alloc: Global,
-    file: &[u8],
-    place: usize,
-    byte: u8,
-) -> Result<Vec<u8>, Fail> {
-    let mut bytes = changed(alloc, file, place, byte)?;
-    bytes.truncate(bytes.len().saturating_sub(32));
-    let digest = Sha256::digest(bytes.as_slice());
-    bytes.extend_from_slice(&digest)?;
     Ok(bytes)
 }

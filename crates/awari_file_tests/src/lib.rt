@@ -1,5 +1,6 @@
-//! Tests of the files of levels and of folders of them, by public calls alone: their bytes, and every
-//! fault in its place. [`MemoryFolder`] is a folder in memory, of which chosen calls are refused.
+//! Tests of the files of levels and of folders of them, by public calls alone: each byte of a file, and
+//! streams and folders that refuse. What a run of the program shows stands in `tests/rows`.
+//! [`MemoryFolder`] is a folder in memory, of which chosen calls are refused.
 #![tactic(auto)]
 
 #[cfg(test)]
@@ -11,19 +12,13 @@ mod examples;
 #[cfg(test)]
 mod expect;
 #[cfg(test)]
-mod folders;
-#[cfg(test)]
 mod levels;
 mod memory;
-#[cfg(test)]
-mod places;
 #[cfg(test)]
 mod plain;
 #[cfg(test)]
 mod refusals;
 #[cfg(test)]
 mod streams;
-#[cfg(test)]
-mod versions;
 
 pub use memory::{MemoryDraft, MemoryFolder};

@@ -7,12 +7,9 @@ use awari_board::Board;
 use awari_file::{FileFault, Loaded, compare_level, read_image, write_level};
 use awari_folder::{Alone, Folder, FolderFault, Stored, load, save, save_or_keep};
 use awari_migrate::{Migrated, migrate};
-use awari_places::{
-    Run, best_line, entry, entry_in_run, limit_in_header, longest_line, open_levels,
-};
-use awari_rank::size;
+use awari_places::{entry, open_levels};
 use awari_table::{Counted, Entry, HIGHEST_LEVEL, Image, Level, Shelf, TableText};
-use awari_verify::{VerifyFault, verify};
+use awari_verify::verify;
 use std::alloc::Global;
 use std::io::{Read, Write};
 use std::sync::Arc;
@@ -28,11 +25,6 @@ pub(crate) fn put_on(alloc: Global, shelf: &mut Shelf, image: Image) -> Result<(
     let level = verify(shelf, image)?;
     shelf.push(Arc::new(alloc, level)?);
     Ok(())
-}
-
-/// Why a level is not right over a shelf.
-pub(crate) fn verdict(shelf: &Shelf, image: Image) -> Option<VerifyFault> {
-    verify(shelf, image).err()
 }
 
 /// The level of this number on a shelf.
@@ -137,51 +129,4 @@ pub(crate) fn look_up(folder: &mut impl Folder, board: Board) -> Result<Entry, F
         return Err(FolderFault::Below { level: levels });
     }
     entry(folder, levels, &board)
-}
-
-/// The pits of the line by the plans of both sides, looked up where they lie.
-pub(crate) fn line_in(
-    alloc: Global,
-    folder: &mut impl Folder,
-    board: Board,
-) -> Result<Vec<u8>, FolderFault> {
-    let opened = open_levels(folder, HIGHEST_LEVEL)?;
-    if board.stones() >= opened.levels {
-        return Err(FolderFault::Below {
-            level: opened.levels,
-        });
-    }
-    let line = best_line(alloc, folder, opened, board)?;
-    Ok(line.moves)
-}
-
-/// The pits of the line in which one side holds out, looked up where they lie.
-pub(crate) fn longest_in(
-    alloc: Global,
-    folder: &mut impl Folder,
-    board: Board,
-) -> Result<Vec<u8>, FolderFault> {
-    let levels = open_levels(folder, HIGHEST_LEVEL)?.levels;
-    if board.stones() >= levels {
-        return Err(FolderFault::Below { level: levels });
-    }
-    longest_line(alloc, folder, levels, board)
-}
-
-/// The entries of level 2, read many at once.
-pub(crate) fn entries_of_level_2(
-    alloc: Global,
-    folder: &mut impl Folder,
-) -> Result<Vec<Entry>, FolderFault> {
-    let mut run = Run::new();
-    let mut entries = Vec::new(alloc);
-    for rank in 0..size(2) {
-        entries.push(entry_in_run(folder, &mut run, 2, rank)?)?;
-    }
-    Ok(entries)
-}
-
-/// The limit of level 2, by its header.
-pub(crate) fn limit_of_level_2(folder: &mut impl Folder) -> Result<u32, FolderFault> {
-    limit_in_header(folder, 2)
 }

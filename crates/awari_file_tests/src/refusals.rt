@@ -3,7 +3,6 @@
 //! growth refused, for each growth in turn. A `?` stands for what is made before the call, whose
 //! refusal is no wrong answer.
 
-use crate::bytes::HEADER_24;
 use crate::expect::expect_equal;
 use crate::levels::{digest_in, right_file, right_shelf};
 use crate::plain::{level_of, load_from, read, save_into};
@@ -34,6 +33,12 @@ fn a_file_is_read(rt: HostRuntime) -> Result<(), Fail> {
     expect_equal(&rt, "entries", found, Ok(12));
     Ok(())
 }
+
+/// The header of a file of level 24, and nothing behind it.
+const HEADER_24: [u8; 52] = [
+    0x41, 0x57, 0x44, 0x42, 0, 2, 24, 0, 0, 0, 0, 0, 0x18, 0xde, 0x5c, 0xac, 0, 0, 1, 0, 0, 0, 0,
+    0, 0, 0, 0, 0, 0, 0, 0, 0, 0, 0, 0, 0, 0, 0, 0, 0, 0, 0, 0, 0, 0, 0, 0, 0, 0, 0, 0, 0,
+];
 
 /// A header that names level 24 asks for no room if no entry follows it.
 #[test]
@@ -109,6 +114,8 @@ fn a_folder_is_saved_into_and_loaded(rt: HostRuntime) -> Result<(), Fail> {
     empty_folder(&rt, folder)?;
     let shelf = right_shelf(rt.alloc())?;
     let digest = digest_in(&right_file(rt.alloc(), 0)?);
+    expect_saved(&rt, folder, level_of(&shelf, 0)?, digest);
+    // No command replaces a file as this does.
     expect_saved(&rt, folder, level_of(&shelf, 0)?, digest);
     expect_loaded(&rt, folder, digest);
     fs::remove_dir_all(&rt, folder)?;
