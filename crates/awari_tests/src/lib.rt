@@ -1,9 +1,7 @@
-//! Tests across the crates, by their public calls alone: worked positions whose answers were found
-//! by hand or by another program.
+//! Tests across the crates, by their public calls alone: of worked positions, what no command shows. What
+//! a run of the program shows stands in `tests/rows`.
 #![tactic(auto)]
 
-#[cfg(test)]
-mod deceits;
 #[cfg(test)]
 mod examples;
 #[cfg(test)]

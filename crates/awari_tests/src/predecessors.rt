@@ -1,31 +1,9 @@
-//! Boards as text, the pits that can be played, and quiet moves backward.
+//! The pits that can be played, and quiet moves backward.
 
 use crate::expect::expect_equal;
-use awari_board::{Board, BoardFault};
+use awari_board::Board;
 use awari_unmove::Unmoves;
 use std::process::Abort;
-use std::test::Fail;
-
-#[test]
-fn boards_are_read_and_printed(rt: HostRuntime) -> Result<(), Fail> {
-    let text = b"12,0,0,0,0,3/4,0,0,0,0,29";
-    let board = Board::parse(text)?;
-    let pits = [12, 0, 0, 0, 0, 3, 4, 0, 0, 0, 0, 29];
-    expect_equal(&rt, "pits", board.pits(), pits);
-    expect_equal(&rt, "text", board.print().as_slice(), text.as_slice());
-    let faults: [(&[u8], BoardFault, u8); 5] = [
-        (b"", BoardFault::Shape, 1),
-        (b"1,0,0,0,0,0/0,0,0,0,0", BoardFault::Shape, 1),
-        (b"01,0,0,0,0,0/0,0,0,0,0,0", BoardFault::Number, 2),
-        (b"100,0,0,0,0,0/0,0,0,0,0,0", BoardFault::Number, 2),
-        (b"25,0,0,0,0,0/24,0,0,0,0,0", BoardFault::TooMany, 3),
-    ];
-    for (text, fault, number) in &faults {
-        expect_equal(&rt, *text, Board::parse(text), Err(*fault));
-        expect_equal(&rt, *text, fault.number(), *number);
-    }
-    Ok(())
-}
 
 fn expect_moves(rt: &impl Abort, board: &Board, pits: &[u8]) {
     expect_equal(rt, *board, board.moves().as_slice(), pits);
