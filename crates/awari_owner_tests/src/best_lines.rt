@@ -3,19 +3,16 @@
 use crate::expect::expect_equal;
 use crate::shelves::levels_below;
 use awari_board::Board;
-use awari_plan::{LineFault, best_line};
+use awari_plan::best_line;
 use awari_table::Shelf;
 use std::alloc::Global;
 use std::process::Abort;
 use std::test::Fail;
 
-/// A board of three stones, of which the mover captures two at once.
-const CAPTURE: &str = "0,0,0,0,0,1/1,0,1,0,0,0";
-
 /// Boards, the moves of their lines, and the outcomes.
 const LINES: [(&str, &[u8], i16); 3] = [
     ("1,0,0,0,0,0/0,0,1,0,0,0", &[0, 2, 1, 3, 2, 4, 3, 5], 2),
-    (CAPTURE, &[5], 1),
+    ("0,0,0,0,0,1/1,0,1,0,0,0", &[5], 1),
     ("0,0,0,0,0,0/1,0,0,0,0,0", &[], -1),
 ];
 
@@ -33,15 +30,6 @@ fn expect_line(
     Ok(())
 }
 
-/// There is no line from a board whose level is not there.
-fn expect_no_line(rt: &impl Abort, alloc: Global, shelf: &Shelf) -> Result<(), Fail> {
-    let board = Board::parse(CAPTURE.as_bytes())?;
-    let fault = best_line(alloc, shelf, board, shelf.limit()).err();
-    let not_yet = LineFault::NotYet { levels: 3 };
-    expect_equal(rt, CAPTURE, fault, Some(not_yet));
-    Ok(())
-}
-
 #[test]
 fn plans_make_lines(rt: HostRuntime) -> Result<(), Fail> {
     let shelf = levels_below(rt.alloc(), 4)?;
@@ -49,10 +37,4 @@ fn plans_make_lines(rt: HostRuntime) -> Result<(), Fail> {
         expect_line(&rt, rt.alloc(), &shelf, *line)?;
     }
     Ok(())
-}
-
-#[test]
-fn a_line_wants_its_level(rt: HostRuntime) -> Result<(), Fail> {
-    let shelf = levels_below(rt.alloc(), 3)?;
-    expect_no_line(&rt, rt.alloc(), &shelf)
 }

@@ -3,10 +3,9 @@
 
 use crate::expect::expect_equal;
 use crate::shelves::levels_below;
-use awari_build::{CrewBuilt, Pace, build_alone, build_by_crew, build_level, build_together};
+use awari_build::{CrewBuilt, build_alone, build_by_crew, build_together};
 use awari_crew::Crew;
 use awari_heard::Silent;
-use awari_phase::Open;
 use awari_table::{Counts, Level, Shelf};
 use std::alloc::Global;
 use std::process::Abort;
@@ -71,11 +70,6 @@ fn expect_built_together(
 }
 
 #[test]
-fn a_crew_of_one_builds_levels_0_to_8(rt: HostRuntime) -> Result<(), Fail> {
-    expect_built_together(&rt, rt.alloc(), 1)
-}
-
-#[test]
 fn a_crew_of_three_builds_levels_0_to_8(rt: HostRuntime) -> Result<(), Fail> {
     expect_built_together(&rt, rt.alloc(), 3)
 }
@@ -85,13 +79,5 @@ fn one_of_two_threads_builds_level_2(rt: HostRuntime) -> Result<(), Fail> {
     let shelf = levels_below(rt.alloc(), 2)?;
     let level = build_together(&rt, rt.alloc(), &shelf, 2)?;
     expect_counts(&rt, &level, COUNTS[2]);
-    Ok(())
-}
-
-#[test]
-fn three_owners_build_level_7(rt: HostRuntime) -> Result<(), Fail> {
-    let shelf = levels_below(rt.alloc(), 7)?;
-    let level = build_level(&rt, rt.alloc(), &shelf, Pace::usual(3), &Open)?;
-    expect_counts(&rt, &level, COUNTS[7]);
     Ok(())
 }

@@ -8,8 +8,6 @@ mod apart;
 #[cfg(test)]
 mod best_lines;
 #[cfg(test)]
-mod built;
-#[cfg(test)]
 mod cores;
 #[cfg(test)]
 mod counts;

@@ -1,24 +1,22 @@
-//! Rounds of owners in threads, and the levels that owners build together.
+//! Rounds of owners in threads, and paces that are refused.
 
 ghost use Rattle.std.specs.Prelude.{IfOk};
 ghost use Rattle.awari_lines.specs.Rings.{IsGrid};
-ghost use Rattle.awari_table.specs.Shelves.{Consistent};
 ghost use Rattle.awari_heard.specs.Level.{AreWhole};
 ghost use Rattle.awari_phase.specs.Owners.{AllGrown, all_ends, parts_of};
 
-use crate::built::expect_verified;
 use crate::expect::{expect, expect_equal};
-use crate::shelves::{expect_limit, levels_below, one_level};
-use awari_build::{BuildFault, Pace, build_alone, build_level};
+use crate::shelves::{levels_below, one_level};
+use awari_build::{BuildFault, Pace, build_level};
 use awari_phase::{
     Gate, Open, Owner, PhaseFault, finished_owners_are_right, gain_phase, open_gain, round,
     scanned_owners, settle_owners,
 };
-use awari_table::{Level, Shelf};
-use std::alloc::{AllocError, Global};
+use awari_table::Shelf;
+use std::alloc::Global;
 use std::process::Abort;
+use std::sync::Wait;
 use std::sync::atomic::{AtomicU64, Ordering};
-use std::sync::{Arc, Wait};
 use std::test::Fail;
 use std::thread;
 use std::thread::Threads;
@@ -84,74 +82,6 @@ fn rounds_spread_and_send(rt: HostRuntime) -> Result<(), Fail> {
     let mut owners = gain_phase(&rt, owners, &Open, 1)?;
     expect_standing(&rt, &owners, [rest, rest, rest]);
     expect(&rt, "settled", settle_owners(owners.as_mut_slice()));
-    Ok(())
-}
-
-/// Owners at this pace build the level that one part builds, over the same shelf, and the verifier takes
-/// it.
-fn expect_built_alike<R: Threads + Wait + Sync + Abort>(
-    rt: &R,
-    alloc: Global,
-    shelf: &Shelf,
-    alone: &Level,
-    (owners, room, sweeps): (u8, u32, u32),
-) -> Result<(), Fail> {
-    let pace = Pace {
-        owners,
-        room,
-        sweeps,
-    };
-    let level = build_level(rt, alloc, shelf, pace, &Open)?;
-    expect_alike(rt, alloc, owners, &level, alone)?;
-    expect_verified(rt, alloc, shelf, &level)
-}
-
-fn expect_alike(
-    rt: &impl Abort,
-    alloc: Global,
-    owners: u8,
-    level: &Level,
-    alone: &Level,
-) -> Result<(), AllocError> {
-    expect_equal(rt, owners, level.limit(), alone.limit());
-    let entries = level.to_vec(alloc)?;
-    expect_equal(rt, owners, entries, alone.to_vec(alloc)?);
-    Ok(())
-}
-
-/// Paces of one, three and sixteen owners.
-const PACES: [(u8, u32, u32); 6] = [
-    (1, 64, 1000),
-    (1, 1, 1),
-    (3, 1, 1000),
-    (3, 256, 1),
-    (16, 64, 1000),
-    (16, 1, 1),
-];
-
-/// The shelf's next level, as owners at each pace build it and as one part does.
-fn built_alike<R: Threads + Wait + Sync + Abort>(
-    rt: &R,
-    alloc: Global,
-    shelf: &Shelf,
-) -> Result<Level, Fail>
-    ensures { IfOk result (Consistent shelf.now) }
-{
-    let alone = build_alone(alloc, shelf)?;
-    for pace in &PACES {
-        expect_built_alike(rt, alloc, shelf, &alone, *pace)?;
-    }
-    Ok(alone)
-}
-
-#[test]
-fn owners_build_what_one_part_builds(rt: HostRuntime) -> Result<(), Fail> {
-    let mut shelf = Shelf::empty();
-    for _level in 0..7u8 {
-        let level = built_alike(&rt, rt.alloc(), &shelf)?;
-        shelf.push(Arc::new(rt.alloc(), level)?);
-    }
-    expect_limit(&rt, &shelf, 7, 64);
     Ok(())
 }
 
