@@ -1,18 +1,25 @@
--- What is said of levels by a shelf, or by files.
-use Rattle.std.proofs.Common.{◌≡◌, ℕ, List, slice_get, Option, Some, None, refl, sym, ap, ◌∙◌}
+-- What is said of levels in memory, or by files.
+use Rattle.std.proofs.Common.{◌≡◌, ℕ, List, slice_get, sum, Option, Some, None, refl, sym, ap, subst, ◌∙◌, arith}
+use Rattle.std.proofs.lemmas.List.{length-take-le}
 use Rattle.std.specs.Prelude.{IsSomeAnd}
 use Rattle.std.proofs.lemmas.Option.{get_or_from_slice_get}
 use Rattle.awari_folder.specs.Contents.{Same}
 use Rattle.awari_places.proofs.Reading.{still_says}
-use Rattle.awari_table.specs.Images.{no_image}
+use Rattle.awari_places.specs.Places.{AreFormed}
+use Rattle.awari_places.specs.Runs.{IsEntryAt}
+use Rattle.awari_rank.specs.Rank.{rank_of, size_of}
+use Rattle.awari_table.proofs.ShelfLemmas.{entry_of-read}
+use Rattle.awari_table.specs.Images.{entry_of, no_image}
+use Rattle.awari_table.specs.Shelves.{IsShelf}
+use Rattle.awari_table.specs.declared.images.Entry.{Entry}
 use Rattle.awari_table.specs.declared.images.Image.{Image}
 use Rattle.awari_facts.specs.Sources.{SaysBy, limit_of}
 use Rattle.awari_facts.specs.declared.sources.Source.{Source}
-use Rattle.awari_facts.specs.declared.sources.Source.TheVariants.{Shelf, Files}
+use Rattle.awari_facts.specs.declared.sources.Source.TheVariants.{Memory, Files}
 
 -- what is said where no name changed
 pub says_still : (source : Source) (old new : ℕ → Option (Option (List ℕ))) (images : List Image) → Same old new → SaysBy source old images → SaysBy source new images
-says_still (Shelf shelf) old new images same says = says
+says_still (Memory levels) old new images same says = says
 says_still (Files levels) old new images same says = still_says old new levels images same says
 
 pub image_of : (o : Option Image) (P : Image → Type 0) → IsSomeAnd o P → (image : Image) × (o ≡ Some image) × P image
@@ -23,3 +30,18 @@ pub limit_said : (images : List Image) (level limit : ℕ) → IsSomeAnd (slice_
 limit_said images level limit there =
     let (image, found, is) = image_of (slice_get images level) (λ image. limit ≡ image.limit) there in
     is ∙ ap (λ (m : Image). m.limit) (sym (get_or_from_slice_get images level image no_image found))
+
+-- the entry at a board's place is the board's
+pub entry_there : (images : List Image) (board : List ℕ) (stones rank : ℕ) (e : Entry) → IsEntryAt images stones rank e → stones ≡ sum board → rank ≡ rank_of board → e ≡ entry_of images board
+entry_there images board stones rank e there same ranked =
+    let here : IsEntryAt images (sum board) (rank_of board) e = subst (λ (n : ℕ). IsEntryAt images n (rank_of board) e) same (subst (λ (k : ℕ). IsEntryAt images stones k e) ranked there) in
+    let (image, found, read) = image_of (slice_get images (sum board)) (λ image. slice_get image.entries (rank_of board) ≡ Some e) here in
+    entry_of-read images board image e found read
+
+-- the levels of a shelf have their numbers and their boards
+pub shelf_formed : (images : List Image) → IsShelf images → AreFormed images
+shelf_formed images shelf = record {
+  few = shelf.few;
+  number = λ level low. (shelf.consistent level low).next ∙ length-take-le level images (omega (arith, low));
+  sized = λ level low. (shelf.consistent level low).sized ∙ ap size_of ((shelf.consistent level low).next ∙ length-take-le level images (omega (arith, low)));
+}

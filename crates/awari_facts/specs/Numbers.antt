@@ -1,5 +1,5 @@
 -- Numbers of a board, by column.
-use Rattle.std.specs.Prelude.{◌≡◌, ◌≤ℤ◌, ℕ, List, ℤ, pos, neg_ℤ, Option, Some, None, slice_get}
+use Rattle.std.specs.Prelude.{◌≡◌, ◌≤ℤ◌, ℕ, Bool, true, false, List, ℤ, pos, neg_ℤ, Option, Some, None, slice_get}
 use Rattle.awari_queries.specs.declared.columns.Column.{Column}
 use Rattle.awari_queries.specs.declared.columns.Column.TheVariants.{Rank, Value, Distance, Plan, Captures, Moves, Keep}
 use Rattle.awari_rank.specs.Rank.{rank_of}
@@ -23,6 +23,16 @@ number_in images Plan board = or_less (entry_of images board).plan
 number_in images Captures board = or_less (captures_by board (entry_of images board).plan)
 number_in images Moves board = pos (legal_moves board)
 number_in images Keep board = pos (keeping_moves images board)
+
+-- an entry and the rules say the number, without a look at other boards
+abbrev pub is_own : Column → Bool
+is_own Rank = true
+is_own Value = true
+is_own Distance = true
+is_own Plan = true
+is_own Captures = true
+is_own Moves = true
+is_own Keep = false
 
 -- it is one of these, or a rank: none is below a value's least
 abbrev pub IsNumber : ℤ → Type 0

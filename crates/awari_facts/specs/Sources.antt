@@ -2,24 +2,30 @@
 use Rattle.std.specs.Prelude.{◌≡◌, ℕ, ◌+◌, ◌<◌, ◌≤◌, List, length, min, Option, slice_index_or}
 use Rattle.awari_folder.specs.Contents.{AreNames}
 use Rattle.awari_places.specs.Opening.{AreFramed}
-use Rattle.awari_places.specs.Places.{Says}
+use Rattle.awari_places.specs.Places.{AreFormed, Says}
 use Rattle.awari_places.specs.declared.opening.Opened.{Opened}
 use Rattle.awari_rank.specs.Rank.{size_of}
 use Rattle.awari_table.specs.Images.{no_image}
 use Rattle.awari_table.specs.declared.TheConstants.{HIGHEST_LEVEL}
-use Rattle.awari_table.specs.Shelves.{IsShelf}
 use Rattle.awari_table.specs.declared.images.Image.{Image}
+use Rattle.awari_facts.specs.declared.sources.Levels.{Levels}
+use Rattle.awari_facts.specs.declared.sources.Levels.TheVariants.{Right, Said}
 use Rattle.awari_facts.specs.declared.sources.Source.{Source}
-use Rattle.awari_facts.specs.declared.sources.Source.TheVariants.{Shelf, Files}
+use Rattle.awari_facts.specs.declared.sources.Source.TheVariants.{Memory, Files}
+
+-- levels in memory
+abbrev pub images_of : Levels → List Image
+images_of (Right shelf) = shelf.now
+images_of (Said said) = said.now
 
 -- how many levels a source has
 abbrev pub levels_of : Source → ℕ
-levels_of (Shelf shelf) = length shelf.now
+levels_of (Memory levels) = length (images_of levels)
 levels_of (Files levels) = levels
 
--- these are the levels of the shelf, which are right, or what the files say
+-- these are the levels in memory, or what the files say
 abbrev pub SaysBy : Source → (ℕ → Option (Option (List ℕ))) → List Image → Type 0
-SaysBy (Shelf shelf) stands images = (images ≡ shelf.now) × IsShelf images
+SaysBy (Memory levels) stands images = (images ≡ images_of levels) × AreFormed images
 SaysBy (Files levels) stands images = Says stands levels images
 
 -- the limit of the level of this number

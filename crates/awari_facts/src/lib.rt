@@ -1,6 +1,6 @@
 //! What is known of a board beside its entry: how many moves are legal and how many keep its value, what
-//! the plan captures, whether it is a burden to move, and what is thrown away by capturing the most. Levels
-//! are read from a shelf, or from files where they lie.
+//! the plan captures, whether it is a burden to move, and what is thrown away by capturing the most. What
+//! needs other boards looks them up in levels in memory, which were verified or only read.
 //!
 //! What the move of a plan captures, in `crates/awari_facts/src/facts.rt`:
 //!
@@ -23,6 +23,9 @@ mod sources;
 
 pub use facts::{legal_moves, own_stones, plan_captures};
 pub use loads::{load_to, open_all, open_to};
-pub use looks::{Gained, Gains, gains_of, gains_on, moves_gaining, trap_by, waits};
-pub use numbers::{Seen, number_of, number_on};
-pub use sources::{Source, count_levels, entry_at, entry_on, read_entry, read_limit};
+pub use looks::{Gained, Gains, gains_of, moves_gaining, trap_by, waits};
+pub use numbers::{Seen, is_own, number_of, own_number};
+pub use sources::{
+    Levels, Source, count_levels, entry_at, entry_on, levels_in, limit_on, read_entry, read_limit,
+    value_on,
+};

@@ -1,6 +1,6 @@
 //! The levels in a folder, up to one that has to be there.
 
-ghost use Rattle.std.specs.Prelude.{◌<◌, ◌≤◌, ◌+◌, IfErr, IfOk, min};
+ghost use Rattle.std.specs.Prelude.{◌≡◌, ◌<◌, ◌≤◌, ◌+◌, IfErr, IfOk, min};
 ghost use Rattle.awari_folder.specs.Contents.{Lacks};
 ghost use Rattle.awari_answers.specs.Asked.{IsUnloaded, OnlyAsks};
 ghost use Rattle.awari_facts.specs.Loads.{AreOpenedTo, CountsLoaded, CountsOpened, HasLevel, IsNoFolder, IsNoLevel, IsUnopened};
@@ -39,6 +39,7 @@ pub fn load_to<T: Threads + Sync, F: Folder>(
 pub fn open_to<F: Folder>(folder: &mut F, level: u8) -> Result<Opened, NoAnswer>
     ensures framed { IfOk result (AreOpenedTo (min level HIGHEST_LEVEL) (F.state folder.old).stands) }
     ensures known { IfOk result (λ opened. level < opened.levels) }
+    ensures only { IfOk result (λ opened. opened.levels ≡ level + 1) }
     ensures fault { IfErr result (IsNoLevel (IsUnopened (min level HIGHEST_LEVEL) (F.state folder.old).stands) (CountsOpened level (F.state folder.old).stands) level) }
     ensures few { IfOk result (λ opened. opened.levels ≤ HIGHEST_LEVEL + 1) }
     ensures asks { OnlyAsks result (F.state folder.old) (F.state folder.new) }

@@ -1,17 +1,12 @@
 //! What is known of a board by the boards that its moves leave, and by the board turned.
 
-ghost use Rattle.std.specs.Prelude.{◌≡◌, ◌<◌, ◌-ℤ◌, List, IfOk, int_lt, length, neg_ℤ, pos, sum};
-ghost use Rattle.awari_folder.specs.State.{Unchanged};
-ghost use Rattle.awari_table.specs.declared.images.Image.{Image};
-ghost use Rattle.awari_places.specs.Places.{IsLevelOf};
+ghost use Rattle.std.specs.Prelude.{◌≡◌, ◌<◌, ◌-ℤ◌, int_lt, length, neg_ℤ, pos, sum};
 ghost use Rattle.awari_facts.specs.Facts.{gained_by, gains, gains_in, greedier, greediest, lost_by, moves_gaining};
-ghost use Rattle.awari_facts.specs.Sources.{SaysBy, levels_of};
+ghost use Rattle.awari_facts.specs.Sources.{images_of};
 
-use crate::sources::{Source, entry_at};
+use crate::sources::{Levels, value_on};
 use awari_board::SIDE;
-use awari_folder::{Folder, FolderFault};
 use awari_packed::{PackedBoard, PackedMove};
-use awari_table::Shelf;
 
 /// What a move captures and gains.
 #[derive(Clone, Copy, Debug, PartialEq, Eq)]
@@ -36,75 +31,32 @@ fn gained_with(moved: &PackedMove, value: i8) -> Gained
     }
 }
 
-/// What the move from a pit captures and gains by verified levels, if it is legal. Condition: the board's
-/// level is there.
-fn gained_on(shelf: &Shelf, board: &PackedBoard, pit: u8) -> Option<Gained>
-    requires { sum board.now < length shelf.now }
-    ensures { result ≡ gained_by shelf.now board.now pit }
+/// What the move from a pit captures and gains, if it is legal. Condition: the board's level is there.
+fn gained_by(levels: Levels<'_>, board: &PackedBoard, pit: u8) -> Option<Gained>
+    requires { sum board.now < length (images_of levels) }
+    ensures { result ≡ gained_by (images_of levels.entry) board.now pit }
 {
     if !board.legal(pit) {
         return None;
     }
     let moved = board.play(pit);
-    let value = shelf.value_below(&moved.board, moved.board.stones());
+    let value = value_on(levels, &moved.board);
     Some(gained_with(&moved, value))
 }
 
-/// What each move of the board captures and gains by verified levels. Condition: the board's level is there.
-pub fn gains_on(shelf: &Shelf, board: &PackedBoard) -> Gains
-    requires { sum board.now < length shelf.now }
-    ensures { result ≡ gains_in shelf.now board.now }
+/// What each move of the board captures and gains. Condition: the board's level is there.
+pub fn gains_of(levels: Levels<'_>, board: &PackedBoard) -> Gains
+    requires { sum board.now < length (images_of levels) }
+    ensures { result ≡ gains_in (images_of levels.entry) board.now }
 {
     [
-        gained_on(shelf, board, 0),
-        gained_on(shelf, board, 1),
-        gained_on(shelf, board, 2),
-        gained_on(shelf, board, 3),
-        gained_on(shelf, board, 4),
-        gained_on(shelf, board, 5),
+        gained_by(levels, board, 0),
+        gained_by(levels, board, 1),
+        gained_by(levels, board, 2),
+        gained_by(levels, board, 3),
+        gained_by(levels, board, 4),
+        gained_by(levels, board, 5),
     ]
-}
-
-/// What the move from a pit captures and gains, if it is legal. Condition: the board's level is there.
-fn gained_by<F: Folder>(
-    source: Source<'_>,
-    folder: &mut F,
-    board: &PackedBoard,
-    pit: u8,
-) -> Result<Option<Gained>, FolderFault>
-    requires { IsLevelOf (levels_of source) (sum board.now) }
-    ensures gained { (images : List Image) → SaysBy source.entry (F.state folder.old).stands images → IfOk result (λ g. g ≡ gained_by images board.now pit) }
-    ensures same { Unchanged (F.state folder.old) (F.state folder.new) }
-{
-    if !board.legal(pit) {
-        return Ok(None);
-    }
-    let moved = board.play(pit);
-    match entry_at(source, folder, &moved.board) {
-        Ok(entry) => Ok(Some(gained_with(&moved, entry.value))),
-        Err(fault) => Err(fault),
-    }
-}
-
-/// What each move of the board captures and gains. Condition: the board's level is there. Of files, six bytes
-/// are read for each legal move.
-pub fn gains_of<F: Folder>(
-    source: Source<'_>,
-    folder: &mut F,
-    board: &PackedBoard,
-) -> Result<Gains, FolderFault>
-    requires { IsLevelOf (levels_of source) (sum board.now) }
-    ensures gains { (images : List Image) → SaysBy source.entry (F.state folder.old).stands images → IfOk result (λ g. g ≡ gains_in images board.now) }
-    ensures same { Unchanged (F.state folder.old) (F.state folder.new) }
-{
-    Ok([
-        gained_by(source, folder, board, 0)?,
-        gained_by(source, folder, board, 1)?,
-        gained_by(source, folder, board, 2)?,
-        gained_by(source, folder, board, 3)?,
-        gained_by(source, folder, board, 4)?,
-        gained_by(source, folder, board, 5)?,
-    ])
 }
 
 /// Whether there is a move, and it gains this value.

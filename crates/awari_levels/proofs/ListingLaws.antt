@@ -92,3 +92,9 @@ pub front_taken : (front items : List ℕ) (n : ℕ) → n ≡ length items → 
 front_taken front items n long is =
     let few : n - 2 ≡ length front = omega (arith, long, ap length is, length-append front (125 ∷ 10 ∷ [])) in
     ap (λ k. take k items) few ∙ ap (take (length front)) is ∙ take-append_seam front (125 ∷ 10 ∷ [])
+
+-- the same lines by other names of the level and of what is wanted
+pub asked-lines : (images : List Image) (level other : ℕ) (wanted given : Wanted) (before after : Option (List ℕ)) → level ≡ other → wanted ≡ given → AppendsWanted images level wanted before after
+    → AppendsWanted images other given before after
+asked-lines images level other wanted given before after same is lines =
+    subst (λ n. AppendsWanted images n given before after) same (subst (λ (w : Wanted). AppendsWanted images level w before after) is lines)

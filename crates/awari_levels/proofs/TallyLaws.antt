@@ -1,9 +1,9 @@
 -- The entries of a level, counted one by one.
-use Rattle.std.proofs.Common.{◌≡◌, ◌==◌, Bool, ℕ, replicate, ◌+◌, ◌<◌, List, [], ◌∷◌, ◌++◌, length, take, get_or, slice_get, Option, Some, None, refl, sym, ap, subst, ◌∙◌, arith, inl, inr}
+use Rattle.std.proofs.Common.{◌≡◌, ◌==◌, Bool, ℕ, replicate, ◌+◌, ◌<◌, List, [], ◌∷◌, ◌++◌, length, get_or, slice_get, Option, Some, None, refl, sym, ap, subst, ◌∙◌, arith, inl, inr}
 use Rattle.std.specs.Ordering.{int_eq}
 use Rattle.std.specs.Prelude.{IsSomeAnd}
 use Rattle.std.proofs.lemmas.Bool.{cases_lt}
-use Rattle.std.proofs.lemmas.List.{ext_get_or, length-replicate, get_or_append_left, get_or_push, length-append, length-take-le}
+use Rattle.std.proofs.lemmas.List.{ext_get_or, length-replicate, get_or_append_left, get_or_push, length-append}
 use Rattle.std.proofs.lemmas.List.FromFn.{length-map-range_with_len}
 use Rattle.std.proofs.lemmas.Option.{get_or_from_slice_get, slice_get_within}
 use Rattle.awari_folder.specs.Contents.{Same}
@@ -13,7 +13,6 @@ use Rattle.awari_places.specs.Places.{entry_in, image_in}
 use Rattle.awari_places.specs.Runs.{IsEntryAt, IsRunOf}
 use Rattle.awari_places.specs.declared.kept.Run.{Run}
 use Rattle.awari_rank.specs.Rank.{size_of}
-use Rattle.awari_table.proofs.ShelfLemmas.{Consistent-level}
 use Rattle.awari_table.specs.Images.{no_entry, no_image}
 use Rattle.awari_table.specs.declared.images.Entry.{Entry}
 use Rattle.awari_table.specs.declared.images.Image.{Image}
@@ -27,7 +26,7 @@ use Rattle.awari_facts.proofs.SourceLaws.{image_of, says_still}
 use Rattle.awari_facts.specs.Sources.{SaysBy, levels_of}
 use Rattle.awari_levels.specs.Tallies.{AreCounted, AreEntriesOf, IsTallied, IsTallyOf, has_sign}
 use Rattle.awari_facts.specs.declared.sources.Source.{Source}
-use Rattle.awari_facts.specs.declared.sources.Source.TheVariants.{Shelf, Files}
+use Rattle.awari_facts.specs.declared.sources.Source.TheVariants.{Memory, Files}
 use Rattle.awari_levels.specs.declared.tallies.Tally.{Tally}
 
 zeros-counted : (test : ℕ → Entry → Bool) (n : ℕ) (counts : List ℕ) → counts ≡ replicate n 0 → AreCounted test n [] counts
@@ -57,7 +56,7 @@ numbered source stands level limit tally numbers images tallied says is kept tol
 
 -- as many levels speak
 pub levels_by : (source : Source) (stands : ℕ → Option (Option (List ℕ))) (images : List Image) → SaysBy source stands images → length images ≡ levels_of source
-levels_by (Shelf shelf) stands images says = ap length says.0
+levels_by (Memory levels) stands images says = ap length says.0
 levels_by (Files levels) stands images says = levels_said stands levels images says
 
 -- these are the first entries of a level
@@ -117,11 +116,10 @@ named_sized level (Some bytes) image e same some =
 -- a level that is there has as many entries as boards
 pub sized_by : (source : Source) (stands : ℕ → Option (Option (List ℕ))) (images : List Image) (level : ℕ) (image : Image) (e : Entry) → SaysBy source stands images → slice_get images level ≡ Some image
     → slice_get image.entries 0 ≡ Some e → (length image.entries ≡ size_of level) × (image.level ≡ level)
-sized_by (Shelf shelf) stands images level image e says found some =
+sized_by (Memory levels) stands images level image e says found some =
     let known : level < length images = slice_get_within images level image found in
-    let consistent = Consistent-level images (take level images) level image says.1 found refl in
-    let same = consistent.next ∙ length-take-le level images (omega (arith, known)) in
-    (consistent.sized ∙ ap size_of same, same)
+    let is : get_or images level no_image ≡ image = get_or_from_slice_get images level image no_image found in
+    (ap (λ (m : Image). length m.entries) (sym is) ∙ says.1.sized level known, ap (λ (m : Image). m.level) (sym is) ∙ says.1.number level known)
 sized_by (Files levels) stands images level image e says found some =
     let known : level < length images = slice_get_within images level image found in
     let low : level < levels = omega (arith, known, levels_said stands levels images says) in

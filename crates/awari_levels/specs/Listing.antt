@@ -1,12 +1,13 @@
 -- The commands `boards` and `text --boards`: which boards of a level are wanted, and what is printed of them.
-use Rattle.std.specs.Prelude.{ℕ, ◌+◌, ◌%◌, ◌==◌, nat_lt, Bool, not, ◌&&◌, ◌||◌, if◌then◌else◌, List, ◌++◌, ◌∷◌, [], length, filter, map, codes, pos, Option, Some, None, ℤ}
+use Rattle.std.specs.Prelude.{◌≡◌, ℕ, ◌+◌, ◌%◌, ◌==◌, nat_lt, Bool, true, false, not, ◌&&◌, ◌||◌, if◌then◌else◌, List, ◌++◌, ◌∷◌, [], length, filter, map, codes, pos, Option, Some, None, ℤ}
+use Rattle.core.specs.Option.{is_some}
 use Rattle.std.specs.Fmt.{decimal, signed_decimal}
 use Rattle.std.specs.Io.KnownBytes.{Appends}
 use Rattle.std.specs.List.{flat_map}
 use Rattle.awari_board.specs.Rules.{own_stones}
 use Rattle.awari_board.specs.Text.{text_of}
 use Rattle.awari_facts.specs.Facts.{captures_by, gains_in, keeping_moves, greediest, legal_moves, lost_by, moves_gaining, waits}
-use Rattle.awari_facts.specs.Numbers.{number_in}
+use Rattle.awari_facts.specs.Numbers.{is_own, number_in}
 use Rattle.awari_facts.specs.declared.looks.Gained.{Gained}
 use Rattle.awari_queries.specs.Draws.{draw_of, taken}
 use Rattle.awari_queries.specs.Holding.{first, sorted}
@@ -106,6 +107,10 @@ suits wanted board e =
 abbrev pub weighs : Spans → List (Option Gained) → ℤ → Bool
 weighs spans moves value = is_in spans.keep (pos (moves_gaining value moves)) && is_in spans.trap (lost_by value (greediest moves))
 
+-- something is asked of what the moves of a board gain
+abbrev pub asks_moves : Spans → Bool
+asks_moves spans = is_some spans.keep || is_some spans.trap
+
 -- so it is of the board, by what the levels say, and it is a burden to move, if that is asked for
 unfoldable pub is_weighed : Wanted → List Image → List ℕ → Bool
 is_weighed wanted images board = weighs wanted.spans (gains_in images board) (entry_of images board).value && not (wanted.waits && not (waits images board))
@@ -122,6 +127,19 @@ sort_key (Some order) images board = key_of order (number_in images order.by boa
 
 unfoldable pub key_if : Wanted → List Image → List ℕ → Option ℤ
 key_if wanted images board = if is_within wanted images board then Some (sort_key wanted.order images board) else None
+
+-- boards are sorted by a number that an entry and the rules say, if they are
+abbrev pub sorts_by_own : Option Order → Bool
+sorts_by_own None = true
+sorts_by_own (Some order) = is_own order.by
+
+-- An entry and the rules say of a board whether it is wanted, and all that is printed of it: nothing is asked of what other boards are
+-- worth.
+pub record IsAlone (wanted : Wanted) : Type 0 where
+  pub waits : wanted.waits ≡ false
+  pub moves : asks_moves wanted.spans ≡ false
+  pub keep : wanted.with_keep ≡ false
+  pub order : sorts_by_own wanted.order ≡ true
 
 -- the greatest distance of those of these boards, 0 if there are none
 abbrev pub farthest_among : Wanted → List Image → List (List ℕ) → ℕ

@@ -3,19 +3,22 @@
 ghost use Rattle.std.specs.Io.KnownBytes.{Appends};
 ghost use Rattle.std.specs.Prelude.{◌≡◌, ◌≤◌, ◌<◌, true, List, IfErr, IfOk, Ok};
 ghost use Rattle.awari_places.specs.Places.{IsLevelOf};
-ghost use Rattle.awari_facts.specs.Sources.{SaysBy, levels_of};
+ghost use Rattle.awari_facts.specs.Sources.{IsSaidOf, SaysBy, levels_of};
+ghost use Rattle.awari_facts.specs.declared.sources.Levels.TheVariants.{Said as SaidLevels};
+ghost use Rattle.awari_facts.specs.declared.sources.Source.TheVariants.{Memory};
 ghost use Rattle.awari_folder.specs.Contents.{Same};
 ghost use Rattle.awari_folder.specs.State.{Unchanged};
 ghost use Rattle.awari_table.specs.declared.images.Image.{Image};
 ghost use Rattle.awari_levels.specs.Boards.{AppendsWanted, IsRefused, IsWanted, PrintsAllBoards, PrintsBoardsBy, all_lines};
 
+use crate::asked::Asked;
 use crate::listing::{count_boards, print_boards};
-use crate::walks::Asked;
-use crate::wanted::Wanted;
+use crate::wanted::{Wanted, is_alone};
 use awari_answers::{NoAnswer, Replies, load_levels, print, refuse, refuse_level, status_of};
-use awari_facts::{Source, load_to, open_to};
+use awari_facts::{Levels, Source, load_to, open_to};
 use awari_folder::{Folder, FolderFault};
 use awari_members::{Form, form_of};
+use awari_places::{Said, read_levels};
 use awari_queries::{BoardsQuery, Spans, asked_order, asked_spans};
 use awari_table::{HIGHEST_LEVEL, Shelf};
 use std::alloc::Global;
@@ -135,9 +138,17 @@ fn refuse_boards<W: Replies>(writer: &mut W, query: &BoardsQuery<'_>, fault: NoA
     refuse_level(writer, form, "boards", Some(query.level), fault)
 }
 
+/// Which boards of a level are asked for.
+#[derive(Clone, Copy)]
+struct Wish<'a> {
+    level: u8,
+    wanted: &'a Wanted,
+}
+
 /// Prints the boards of a level that the query asks for, by rank or sorted, or how many there are, or the
 /// refusal, in the form of the lines. It takes memory for the levels, for boards that threads look at, and for
-/// those that are sorted. If it asks for files that nobody verified, it takes none for levels.
+/// those that are sorted. If it asks for files that nobody verified, it takes none for levels, unless something
+/// is wanted that other boards say.
 pub fn run_boards<T: Threads + Sync, F: Folder, W: Replies>(
     rt: &T,
     alloc: Global,
@@ -153,28 +164,73 @@ pub fn run_boards<T: Threads + Sync, F: Folder, W: Replies>(
         Ok(wanted) => wanted,
         Err(fault) => return refuse_boards(writer, query, fault),
     };
+    let level = query.level;
     if query.unverified {
-        let opened = match open_to(folder, query.level) {
-            Ok(opened) => opened,
-            Err(fault) => return refuse_boards(writer, query, fault),
-        };
-        let asked = Asked {
-            source: Source::Files(opened.levels),
-            level: query.level,
-            wanted: &wanted,
-        };
-        return run_asked(rt, alloc, folder, asked, writer);
+        let wanted = &wanted;
+        return run_boards_said(rt, alloc, folder, Wish { level, wanted }, writer);
     }
-    let shelf = match load_to(rt, alloc, folder, query.level) {
+    let shelf = match load_to(rt, alloc, folder, level) {
         Ok(shelf) => shelf,
         Err(fault) => return refuse_boards(writer, query, fault),
     };
     let asked = Asked {
-        source: Source::Shelf(&shelf),
-        level: query.level,
+        source: Source::Memory(Levels::Right(&shelf)),
+        level,
         wanted: &wanted,
     };
     run_asked(rt, alloc, folder, asked, writer)
+}
+
+/// Prints the same by what the files say.
+fn run_boards_said<T: Threads + Sync, F: Folder, W: Replies>(
+    rt: &T,
+    alloc: Global,
+    folder: &mut F,
+    wish: Wish<'_>,
+    writer: &mut W,
+) -> u8
+    requires { 0 < wish.wanted.now.every }
+    ensures status { result ≤ 1 }
+    ensures same { Same (F.state folder.old).stands (F.state folder.new).stands }
+    ensures found { result ≡ 0 → IsSaidOf wish.entry.level (F.state folder.old).stands
+        (λ images. AppendsWanted images wish.entry.level wish.entry.wanted.now (W.contents writer.old) (W.contents writer.new)) }
+{
+    let Wish { level, wanted } = wish;
+    let opened = match open_to(folder, level) {
+        Ok(opened) => opened,
+        Err(fault) => return refuse_level(writer, wanted.form, "boards", Some(level), fault),
+    };
+    if is_alone(wanted) {
+        let asked = Asked {
+            source: Source::Files(opened.levels),
+            level,
+            wanted,
+        };
+        return run_asked(rt, alloc, folder, asked, writer);
+    }
+    let said = match read_levels(alloc, folder, opened.levels) {
+        Ok(said) => said,
+        Err(fault) => {
+            let fault = NoAnswer::Folder { fault };
+            return refuse_level(writer, wanted.form, "boards", Some(level), fault);
+        }
+    };
+    // For the proof: each level has its number and its boards.
+    let _levels = said.levels();
+    run_asked(rt, alloc, folder, asked_of(&said, wish), writer)
+}
+
+/// What is asked of levels that were read.
+fn asked_of<'a>(said: &'a Said, wish: Wish<'a>) -> Asked<'a>
+    ensures source { result.source ≡ Memory (SaidLevels said.entry) }
+    ensures level { result.level ≡ wish.entry.level }
+    ensures wanted { result.wanted ≡ wish.entry.wanted }
+{
+    Asked {
+        source: Source::Memory(Levels::Said(said)),
+        level: wish.level,
+        wanted: wish.wanted,
+    }
 }
 
 /// Prints all boards of all levels, and says whether the writer took them.
@@ -190,7 +246,7 @@ fn print_levels<R: Threads + Sync, F: Folder, W: Write>(
 {
     for level in 0..shelf.levels() {
         let asked = Asked {
-            source: Source::Shelf(shelf),
+            source: Source::Memory(Levels::Right(shelf)),
             level,
             wanted: &ALL,
         };
@@ -228,7 +284,7 @@ pub fn run_all_boards<T: Threads + Sync, F: Folder, W: Replies>(
         Err(fault) => return refuse(writer, fault),
     };
     let asked = Asked {
-        source: Source::Shelf(&shelf),
+        source: Source::Memory(Levels::Right(&shelf)),
         level,
         wanted: &ALL,
     };

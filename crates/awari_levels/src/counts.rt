@@ -18,7 +18,7 @@ ghost use Rattle.awari_levels.specs.Tallies.{AreByDistance, AreByValue, IsTallyO
 use crate::shown::{print_distance, print_level, print_names, print_top, print_value};
 use crate::tallies::{Tally, VALUES, tally_level, value_of};
 use awari_answers::{LevelLine, NoAnswer, Replies, load_levels, refuse_level, status_of};
-use awari_facts::{Source, count_levels, load_to, open_all, open_to, read_limit};
+use awari_facts::{Levels, Source, count_levels, load_to, open_all, open_to, read_limit};
 use awari_folder::{Folder, FolderFault};
 use awari_members::{Form, form_of};
 use awari_places::Opened;
@@ -229,7 +229,8 @@ pub fn run_counts<T: Threads + Sync, F: Folder, W: Replies>(
     };
     // For the proof: the levels are a shelf.
     let _levels = shelf.levels();
-    match print_counts(alloc, Source::Shelf(&shelf), folder, query, writer) {
+    let source = Source::Memory(Levels::Right(&shelf));
+    match print_counts(alloc, source, folder, query, writer) {
         Ok(written) => status_of(written),
         Err(fault) => refuse_counts(writer, query, NoAnswer::Folder { fault }),
     }

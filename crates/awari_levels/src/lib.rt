@@ -17,6 +17,7 @@
 //!     }
 #![tactic(auto)]
 
+mod asked;
 mod batches;
 mod boards;
 mod counts;

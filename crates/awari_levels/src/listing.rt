@@ -1,6 +1,6 @@
 //! The boards of a level that are wanted, counted or printed.
 
-ghost use Rattle.std.specs.Prelude.{◌≡◌, ◌<◌, ◌-◌, ◌↔◌, ℕ, true, if◌then◌else◌, max, List, length, All, IfOk, None, Ok, Some};
+ghost use Rattle.std.specs.Prelude.{◌≡◌, ◌<◌, ◌-◌, ◌↔◌, ℕ, true, if◌then◌else◌, max, List, Option, length, All, IfOk, None, Ok, Some};
 ghost use Rattle.awari_places.specs.Places.{IsLevelOf};
 ghost use Rattle.awari_facts.specs.Facts.{keeping_moves};
 ghost use Rattle.awari_facts.specs.Numbers.{IsAt};
@@ -15,10 +15,11 @@ ghost use Rattle.awari_table.specs.declared.images.Image.{Image};
 ghost use Rattle.awari_levels.specs.Listing.{AppendsLines, due_boards, farthest_of, numbers_of, taken_boards, wanted_boards};
 ghost use Rattle.awari_levels.specs.Walks.{AreHeld, IsChoice};
 
+use crate::asked::Asked;
 use crate::batches::{LineNumbers, new_batch, push_board};
-use crate::walks::{Asked, Choice, look, new_walk, segment_for, step};
+use crate::walks::{Choice, look, new_walk, segment_for, step};
 use awari_answers::print_bytes;
-use awari_facts::{Seen, entry_at, gains_of, legal_moves, moves_gaining, read_entry};
+use awari_facts::{Seen, Source, entry_at, gains_of, legal_moves, moves_gaining, read_entry};
 use awari_folder::{Folder, FolderFault};
 use awari_packed::PackedBoard;
 use awari_places::Run;
@@ -61,7 +62,7 @@ fn find_farthest<R: Threads + Sync, F: Folder>(
     for rank in 0..size(level) {
         let entry = read_entry(asked.source, folder, &mut run, level, rank)?;
         let seen = Seen { level, rank, entry };
-        let key = look(rt, folder, asked, &mut segment, &seen)?;
+        let key = look(rt, asked, &mut segment, &seen);
         farthest = farther(key.is_some(), farthest, entry.dist);
     }
     Ok(farthest)
@@ -121,45 +122,38 @@ fn choose<'a, R: Threads + Sync, F: Folder>(
 
 /// The moves of a board that keep its value, if that is asked for. Conditions: the level is there, and has so
 /// many boards.
-fn keeping<F: Folder>(
-    folder: &mut F,
-    asked: Asked<'_>,
-    seen: &Seen,
-) -> Result<Option<u8>, FolderFault>
+fn keeping(asked: Asked<'_>, seen: &Seen) -> Option<u8>
     requires { IsThere (levels_of asked.source) seen.now.level seen.now.rank }
-    ensures keeping { (images : List Image) → SaysBy asked.entry.source (F.state folder.old).stands images → (board : List ℕ) → IsAt images seen.now.level seen.now.rank board seen.now.entry
-        → IfOk result (λ keep. keep ≡ (if asked.entry.wanted.now.with_keep then Some (keeping_moves images board) else None)) }
-    ensures same { Unchanged (F.state folder.old) (F.state folder.new) }
+    ensures { (stands : ℕ → Option (Option (List ℕ))) (images : List Image) → SaysBy asked.entry.source stands images → (board : List ℕ) → IsAt images seen.now.level seen.now.rank board seen.now.entry
+        → result ≡ (if asked.entry.wanted.now.with_keep then Some (keeping_moves images board) else None) }
 {
     if !asked.wanted.with_keep {
-        return Ok(None);
+        return None;
     }
-    let moves = gains_of(asked.source, folder, &seen.board())?;
-    Ok(Some(moves_gaining(&moves, seen.entry.value)))
+    let Source::Memory(levels) = asked.source else {
+        unreachable!()
+    };
+    let moves = gains_of(levels, &seen.board());
+    Some(moves_gaining(&moves, seen.entry.value))
 }
 
 /// The numbers of a board's line. Conditions: the level is there, and has that many boards.
-fn numbers_of<F: Folder>(
-    folder: &mut F,
-    asked: Asked<'_>,
-    seen: &Seen,
-) -> Result<LineNumbers, FolderFault>
+fn numbers_of(asked: Asked<'_>, seen: &Seen) -> LineNumbers
     requires { IsThere (levels_of asked.source) seen.now.level seen.now.rank }
-    ensures numbers { (images : List Image) → SaysBy asked.entry.source (F.state folder.old).stands images → (board : List ℕ) → IsAt images seen.now.level seen.now.rank board seen.now.entry
-        → IfOk result (λ n. n ≡ numbers_of asked.entry.wanted.now images board) }
-    ensures same { Unchanged (F.state folder.old) (F.state folder.new) }
+    ensures { (stands : ℕ → Option (Option (List ℕ))) (images : List Image) → SaysBy asked.entry.source stands images → (board : List ℕ) → IsAt images seen.now.level seen.now.rank board seen.now.entry
+        → result ≡ numbers_of asked.entry.wanted.now images board }
 {
-    let keep = keeping(folder, asked, seen)?;
+    let keep = keeping(asked, seen);
     let moves = if asked.wanted.with_moves {
         Some(legal_moves(&seen.board()))
     } else {
         None
     };
-    Ok(LineNumbers {
+    LineNumbers {
         entry: seen.entry,
         moves,
         keep,
-    })
+    }
 }
 
 /// Counts one less of those that are still wanted, and says whether it was the last; 0 has no last one.
@@ -201,7 +195,7 @@ fn print_taken<R: Threads + Sync, F: Folder, W: Write>(
             rank,
             entry: taken.entry,
         };
-        let numbers = numbers_of(folder, choice.asked, &seen)?;
+        let numbers = numbers_of(choice.asked, &seen);
         if !push_board(
             &mut batch,
             wanted.form,
@@ -275,7 +269,7 @@ fn print_held<F: Folder, W: Write>(
         let rank = held[place].rank;
         let board = unrank(level, rank);
         let entry = entry_at(asked.source, folder, &PackedBoard::new(&board))?;
-        let numbers = numbers_of(folder, asked, &Seen { level, rank, entry })?;
+        let numbers = numbers_of(asked, &Seen { level, rank, entry });
         if !push_board(&mut batch, wanted.form, &board, numbers, writer) {
             return Ok(false);
         }

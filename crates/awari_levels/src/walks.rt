@@ -1,6 +1,6 @@
 //! A walk over the boards of a level, by rank, that finds those that are wanted.
 
-ghost use Rattle.std.specs.Prelude.{◌≡◌, ◌<◌, ◌≤◌, ◌+◌, ◌%◌, ◌==◌, ◌&&◌, ℕ, [], if◌then◌else◌, List, IfOk};
+ghost use Rattle.std.specs.Prelude.{◌≡◌, ◌<◌, ◌≤◌, ◌+◌, ◌%◌, ◌==◌, ◌&&◌, ℕ, [], if◌then◌else◌, List, Option, IfOk};
 ghost use Rattle.awari_facts.specs.Numbers.{IsAt};
 ghost use Rattle.awari_facts.specs.Sources.{IsThere, SaysBy, levels_of};
 ghost use Rattle.awari_folder.specs.State.{Unchanged};
@@ -11,8 +11,9 @@ ghost use Rattle.awari_levels.specs.Segments.{HasKeys};
 ghost use Rattle.awari_levels.specs.Walks.{Steps, Walked};
 ghost use Rattle.awari_levels.specs.declared.wanted.Wanted.{Wanted as AWanted};
 
+use crate::asked::Asked;
 use crate::segments::{Segment, key_in_segment, new_segment};
-use crate::wanted::{Wanted, key_of_board};
+use crate::wanted::{Wanted, own_key};
 use awari_facts::{Seen, Source, read_entry};
 use awari_folder::{Folder, FolderFault};
 use awari_places::Run;
@@ -24,17 +25,6 @@ use std::thread::Threads;
 /// How many boards threads look at together: some milliseconds of work for each thread, so that starting it
 /// costs little.
 const SEGMENT: u32 = 131072;
-
-/// A level that is asked about, and which of its boards are wanted.
-#[derive(Clone, Copy)]
-pub(crate) struct Asked<'a> {
-    /// Where the levels are.
-    pub(crate) source: Source<'a>,
-    /// The level.
-    pub(crate) level: u8,
-    /// Which of its boards are wanted.
-    pub(crate) wanted: &'a Wanted,
-}
 
 /// What is known of a level before its boards are listed.
 #[derive(Clone, Copy)]
@@ -91,7 +81,7 @@ pub(crate) fn segment_for(alloc: Global, asked: Asked<'_>) -> Result<Segment, Fo
     ensures { (wanted : AWanted) (images : List Image) (level : ℕ) → IfOk result (HasKeys wanted images level) }
 {
     let boards = match asked.source {
-        Source::Shelf(_) => SEGMENT,
+        Source::Memory(_) => SEGMENT,
         Source::Files(_) => 0,
     };
     match new_segment(alloc, boards) {
@@ -100,26 +90,24 @@ pub(crate) fn segment_for(alloc: Global, asked: Asked<'_>) -> Result<Segment, Fo
     }
 }
 
-/// What a board is sorted by, if it has all that is wanted of it. By verified levels threads look at it and at
+/// What a board is sorted by, if it has all that is wanted of it. Of levels in memory threads look at it and at
 /// those behind it. Conditions: the level is there, and has that many boards.
-pub(crate) fn look<R: Threads + Sync, F: Folder>(
+pub(crate) fn look<R: Threads + Sync>(
     rt: &R,
-    folder: &mut F,
     asked: Asked<'_>,
     segment: &mut Segment,
     seen: &Seen,
-) -> Result<Option<i64>, FolderFault>
+) -> Option<i64>
     requires { IsThere (levels_of asked.source) seen.now.level seen.now.rank }
-    ensures key { (images : List Image) → SaysBy asked.entry.source (F.state folder.old).stands images
+    ensures key { (stands : ℕ → Option (Option (List ℕ))) (images : List Image) → SaysBy asked.entry.source stands images
         → HasKeys asked.entry.wanted.now images seen.now.level segment.old → (board : List ℕ) → IsAt images seen.now.level seen.now.rank board seen.now.entry
-        → IfOk result (λ key. key ≡ key_if asked.entry.wanted.now images board) }
-    ensures keys { (images : List Image) → SaysBy asked.entry.source (F.state folder.old).stands images
+        → result ≡ key_if asked.entry.wanted.now images board }
+    ensures keys { (stands : ℕ → Option (Option (List ℕ))) (images : List Image) → SaysBy asked.entry.source stands images
         → HasKeys asked.entry.wanted.now images seen.now.level segment.old → HasKeys asked.entry.wanted.now images seen.now.level segment.new }
-    ensures same { Unchanged (F.state folder.old) (F.state folder.new) }
 {
     match asked.source {
-        Source::Shelf(shelf) => Ok(key_in_segment(rt, shelf, asked.wanted, seen, segment)),
-        Source::Files(_) => key_of_board(asked.source, folder, asked.wanted, seen),
+        Source::Memory(levels) => key_in_segment(rt, levels, asked.wanted, seen, segment),
+        Source::Files(_) => own_key(asked.wanted, seen),
     }
 }
 
@@ -168,10 +156,11 @@ pub(crate) fn step<R: Threads + Sync, F: Folder>(
         source,
         level,
         wanted,
+        ..
     } = choice.asked;
     let entry = read_entry(source, folder, &mut walk.run, level, rank)?;
     let seen = Seen { level, rank, entry };
-    let key = look(rt, folder, choice.asked, &mut walk.segment, &seen)?;
+    let key = look(rt, choice.asked, &mut walk.segment, &seen);
     let passes = passes(wanted, choice.farthest, key, entry);
     if !is_due(passes, wanted.every, &mut walk.passed) {
         return Ok(None);

@@ -1,28 +1,25 @@
 //! Which boards of a level are wanted.
 
-ghost use Rattle.std.specs.Prelude.{◌≡◌, ◌<◌, ◌≤◌, true, false, ℕ, List, Option, IfOk, IfSome, IsNone, length, sum, ℤ};
-ghost use Rattle.awari_places.specs.Places.{IsLevelOf};
+ghost use Rattle.std.specs.Prelude.{◌≡◌, ◌<◌, ◌≤◌, true, false, ℕ, List, Option, IfSome, IsNone, IsSome, length, sum, ℤ};
 ghost use Rattle.awari_facts.specs.Facts.{gains_in};
 ghost use Rattle.awari_facts.specs.Numbers.{IsAt};
-ghost use Rattle.awari_facts.specs.Sources.{IsThere, SaysBy, levels_of};
+ghost use Rattle.awari_facts.specs.Sources.{images_of};
 ghost use Rattle.awari_facts.specs.declared.looks.Gained.{Gained as AGained};
-ghost use Rattle.awari_folder.specs.State.{Unchanged};
 ghost use Rattle.awari_rank.specs.Rank.{size_of};
 ghost use Rattle.awari_table.specs.Images.{entry_of};
 ghost use Rattle.awari_table.specs.declared.TheConstants.{HIGHEST_LEVEL};
 ghost use Rattle.awari_table.specs.declared.images.Entry.{Entry as AnEntry};
 ghost use Rattle.awari_table.specs.declared.images.Image.{Image};
-ghost use Rattle.awari_levels.specs.Listing.{fits, is_of_kind, is_weighed, is_within, key_if, suits, weighs};
+ghost use Rattle.awari_levels.specs.Listing.{IsAlone, asks_moves, fits, is_of_kind, is_weighed, is_within, key_if, suits, weighs};
 
 use awari_facts::{
-    Gains, Seen, Source, entry_at, gains_of, gains_on, legal_moves, moves_gaining, number_of,
-    number_on, own_stones, plan_captures, trap_by, waits,
+    Gains, Levels, Seen, gains_of, is_own, legal_moves, levels_in, moves_gaining, number_of,
+    own_number, own_stones, plan_captures, trap_by, value_on, waits,
 };
-use awari_folder::{Folder, FolderFault};
 use awari_members::Form;
 use awari_packed::PackedBoard;
 use awari_queries::{Order, Spans, has, is_in, key_of};
-use awari_table::{Entry, Shelf};
+use awari_table::Entry;
 
 /// Which boards of a level are wanted, and how.
 #[derive(Clone, Copy, Debug, PartialEq, Eq)]
@@ -109,7 +106,8 @@ fn asks_rules(wanted: &Wanted) -> bool
 
 /// Whether something is wanted of what the moves of a board gain.
 fn asks_moves(spans: &Spans) -> bool
-    ensures { result ≡ false → (moves : List (Option AGained)) (value : ℤ) → weighs spans.now moves value ≡ true }
+    ensures asks { result ≡ asks_moves spans.now }
+    ensures none { result ≡ false → (moves : List (Option AGained)) (value : ℤ) → weighs spans.now moves value ≡ true }
 {
     spans.keep.is_some() || spans.trap.is_some()
 }
@@ -134,6 +132,7 @@ fn settled(wanted: &Wanted, seen: &Seen) -> Option<bool>
     ensures some { (images : List Image) (board : List ℕ) → IsAt images seen.now.level seen.now.rank board seen.now.entry → IfSome result (λ b. b ≡ is_within wanted.now images board) }
     ensures none { (images : List Image) (board : List ℕ) → IsAt images seen.now.level seen.now.rank board seen.now.entry → IsNone result
         → is_weighed wanted.now images board ≡ is_within wanted.now images board }
+    ensures alone { wanted.now.waits ≡ false → asks_moves wanted.now.spans ≡ false → IsSome result }
 {
     if !fits(&wanted.spans, seen.entry) {
         return Some(false);
@@ -156,149 +155,94 @@ fn weighs(spans: &Spans, moves: &Gains, value: i8) -> bool
     is_in(spans.keep, i64::from(keeping)) && is_in(spans.trap, lost)
 }
 
-/// Whether what the moves of a board of this value gain by verified levels is as it is wanted. Condition: its
-/// level is there.
-fn weighs_on(shelf: &Shelf, spans: &Spans, board: &PackedBoard, value: i8) -> bool
-    requires { sum board.now < length shelf.now }
-    ensures { result ≡ weighs spans.now (gains_in shelf.now board.now) value }
+/// Whether what the moves of a board of this value gain is as it is wanted. Condition: its level is there.
+fn weighs_in(levels: Levels<'_>, spans: &Spans, board: &PackedBoard, value: i8) -> bool
+    requires { sum board.now < length (images_of levels) }
+    ensures { result ≡ weighs spans.now (gains_in (images_of levels.entry) board.now) value }
 {
     if !asks_moves(spans) {
         return true;
     }
-    weighs(spans, &gains_on(shelf, board), value)
+    weighs(spans, &gains_of(levels, board), value)
 }
 
-/// Whether verified levels say of other boards what is wanted of this one, of this value. Condition: its level
-/// is there.
-fn is_weighed_on(shelf: &Shelf, wanted: &Wanted, board: &PackedBoard, value: i8) -> bool
-    requires { sum board.now < length shelf.now }
-    ensures { value ≡ (entry_of shelf.now board.now).value → result ≡ is_weighed wanted.now shelf.now board.now }
+/// Whether the levels say of other boards what is wanted of this one, of this value. Condition: its level is
+/// there.
+fn is_weighed(levels: Levels<'_>, wanted: &Wanted, board: &PackedBoard, value: i8) -> bool
+    requires { sum board.now < length (images_of levels) }
+    ensures { value ≡ (entry_of (images_of levels.entry) board.now).value → result ≡ is_weighed wanted.now (images_of levels.entry) board.now }
 {
-    if !weighs_on(shelf, &wanted.spans, board, value) {
+    if !weighs_in(levels, &wanted.spans, board, value) {
         return false;
     }
     if !wanted.waits {
         return true;
     }
-    waits(value, shelf.value_below(&board.turned(), board.stones()))
+    waits(value, value_on(levels, &board.turned()))
 }
 
-/// Whether what the moves of a board of this value gain is as it is wanted. Condition: its level is there.
-fn weighs_in<F: Folder>(
-    source: Source<'_>,
-    folder: &mut F,
-    spans: &Spans,
-    board: &PackedBoard,
-    value: i8,
-) -> Result<bool, FolderFault>
-    requires { IsLevelOf (levels_of source) (sum board.now) }
-    ensures weighed { (images : List Image) → SaysBy source.entry (F.state folder.old).stands images → IfOk result (λ b. b ≡ weighs spans.now (gains_in images board.now) value) }
-    ensures same { Unchanged (F.state folder.old) (F.state folder.new) }
-{
-    if !asks_moves(spans) {
-        return Ok(true);
-    }
-    let moves = gains_of(source, folder, board)?;
-    Ok(weighs(spans, &moves, value))
-}
-
-/// Whether the levels say of other boards what is wanted of this one, of this value. Condition: its level is
-/// there.
-fn is_weighed<F: Folder>(
-    source: Source<'_>,
-    folder: &mut F,
-    wanted: &Wanted,
-    board: &PackedBoard,
-    value: i8,
-) -> Result<bool, FolderFault>
-    requires { IsLevelOf (levels_of source) (sum board.now) }
-    ensures weighed { (images : List Image) → SaysBy source.entry (F.state folder.old).stands images → value ≡ (entry_of images board.now).value
-        → IfOk result (λ b. b ≡ is_weighed wanted.now images board.now) }
-    ensures same { Unchanged (F.state folder.old) (F.state folder.new) }
-{
-    let weighs = weighs_in(source, folder, &wanted.spans, board, value)?;
-    if !weighs {
-        return Ok(false);
-    }
-    if !wanted.waits {
-        return Ok(true);
-    }
-    let other = entry_at(source, folder, &board.turned())?;
-    Ok(waits(value, other.value))
-}
-
-/// Whether by verified levels the board of a rank has all that is wanted of each. Condition: the level is
-/// there, and has that many boards.
-fn is_within_on(shelf: &Shelf, wanted: &Wanted, seen: &Seen) -> bool
-    requires level { seen.now.level < length shelf.now }
+/// Whether the board of a rank has all that is wanted of each. Condition: the level is there, and has that many
+/// boards.
+fn is_within(levels: Levels<'_>, wanted: &Wanted, seen: &Seen) -> bool
+    requires level { seen.now.level < length (images_of levels) }
     requires rank { seen.now.rank < size_of seen.now.level }
-    ensures { (board : List ℕ) → IsAt shelf.now seen.now.level seen.now.rank board seen.now.entry → result ≡ is_within wanted.now shelf.now board }
+    ensures { (board : List ℕ) → IsAt (images_of levels.entry) seen.now.level seen.now.rank board seen.now.entry → result ≡ is_within wanted.now (images_of levels.entry) board }
 {
     // For the proof: there are at most 25 levels.
-    let _levels = shelf.levels();
+    let _levels = levels_in(levels);
     match settled(wanted, seen) {
         Some(within) => within,
-        None => is_weighed_on(shelf, wanted, &seen.board(), seen.entry.value),
+        None => is_weighed(levels, wanted, &seen.board(), seen.entry.value),
     }
 }
 
-/// Whether the board of a rank has all that is wanted of each. Condition: the level is there, and has this many
-/// boards.
-fn is_within<F: Folder>(
-    source: Source<'_>,
-    folder: &mut F,
-    wanted: &Wanted,
-    seen: &Seen,
-) -> Result<bool, FolderFault>
-    requires { IsThere (levels_of source) seen.now.level seen.now.rank }
-    ensures within { (images : List Image) (board : List ℕ) → SaysBy source.entry (F.state folder.old).stands images → IsAt images seen.now.level seen.now.rank board seen.now.entry
-        → IfOk result (λ b. b ≡ is_within wanted.now images board) }
-    ensures same { Unchanged (F.state folder.old) (F.state folder.new) }
-{
-    match settled(wanted, seen) {
-        Some(within) => Ok(within),
-        None => is_weighed(source, folder, wanted, &seen.board(), seen.entry.value),
-    }
-}
-
-/// What the board of a rank is sorted by, if by verified levels it has all that is wanted of each. Condition:
-/// the level is there, and has that many boards.
-pub(crate) fn key_on(shelf: &Shelf, wanted: &Wanted, seen: &Seen) -> Option<i64>
-    requires level { seen.now.level < length shelf.now }
+/// What the board of a rank is sorted by, if it has all that is wanted of each. Condition: the level is there,
+/// and has that many boards.
+pub(crate) fn key_on(levels: Levels<'_>, wanted: &Wanted, seen: &Seen) -> Option<i64>
+    requires level { seen.now.level < length (images_of levels) }
     requires rank { seen.now.rank < size_of seen.now.level }
-    ensures { (board : List ℕ) → IsAt shelf.now seen.now.level seen.now.rank board seen.now.entry → result ≡ key_if wanted.now shelf.now board }
+    ensures { (board : List ℕ) → IsAt (images_of levels.entry) seen.now.level seen.now.rank board seen.now.entry → result ≡ key_if wanted.now (images_of levels.entry) board }
 {
-    if !is_within_on(shelf, wanted, seen) {
+    if !is_within(levels, wanted, seen) {
         return None;
     }
     match wanted.order {
         None => Some(0),
-        Some(order) => Some(key_of(order, number_on(shelf, order.by, seen))),
+        Some(order) => Some(key_of(order, number_of(levels, order.by, seen))),
     }
 }
 
-/// What the board of a rank is sorted by, if it has all that is wanted of each. Condition: the level is
-/// there, and has that many boards.
-pub(crate) fn key_of_board<F: Folder>(
-    source: Source<'_>,
-    folder: &mut F,
-    wanted: &Wanted,
-    seen: &Seen,
-) -> Result<Option<i64>, FolderFault>
-    requires { IsThere (levels_of source) seen.now.level seen.now.rank }
-    ensures key { (images : List Image) (board : List ℕ) → SaysBy source.entry (F.state folder.old).stands images → IsAt images seen.now.level seen.now.rank board seen.now.entry
-        → IfOk result (λ key. key ≡ key_if wanted.now images board) }
-    ensures same { Unchanged (F.state folder.old) (F.state folder.new) }
+/// Whether an entry and the rules say of a board whether it is wanted, and all that is printed of it.
+pub(crate) fn is_alone(wanted: &Wanted) -> bool
+    ensures { result ≡ true → IsAlone wanted.now }
 {
-    let within = is_within(source, folder, wanted, seen)?;
-    if !within {
-        return Ok(None);
+    if wanted.waits || wanted.with_keep || asks_moves(&wanted.spans) {
+        return false;
     }
     match wanted.order {
-        None => Ok(Some(0)),
-        Some(order) => {
-            let number = number_of(source, folder, order.by, seen)?;
-            Ok(Some(key_of(order, number)))
-        }
+        None => true,
+        Some(order) => is_own(order.by),
+    }
+}
+
+/// What the board of a rank is sorted by, if it has all that is wanted of each. Conditions: its entry and the
+/// rules say all that is wanted, the level is at most 24, and has that many boards.
+pub(crate) fn own_key(wanted: &Wanted, seen: &Seen) -> Option<i64>
+    requires alone { IsAlone wanted.now }
+    requires level { seen.now.level ≤ HIGHEST_LEVEL }
+    requires rank { seen.now.rank < size_of seen.now.level }
+    ensures { (images : List Image) (board : List ℕ) → IsAt images seen.now.level seen.now.rank board seen.now.entry → result ≡ key_if wanted.now images board }
+{
+    match settled(wanted, seen) {
+        Some(true) => {}
+        Some(false) => return None,
+        None => unreachable!(),
+    }
+    let Some(order) = wanted.order else {
+        return Some(0);
+    };
+    match own_number(order.by, seen) {
+        Some(number) => Some(key_of(order, number)),
+        None => unreachable!(),
     }
 }

@@ -1,6 +1,7 @@
 -- A table of numbers of boards, row by row. Private functions alone go by this: no public contract does.
-use Rattle.std.specs.Prelude.{◌≡◌, ℕ, ◌+◌, ◌*◌, ◌<◌, ◌≤◌, List, count_by, length, slice_get, slice_index, slice_index_or, take, ℤ, Option, Some, None, IfSome}
-use Rattle.awari_facts.specs.Numbers.{number_in}
+use Rattle.std.specs.Prelude.{◌≡◌, true, ℕ, ◌+◌, ◌*◌, ◌<◌, ◌≤◌, List, count_by, length, slice_get, slice_index, slice_index_or, take, ℤ, Option, Some, None, IfSome}
+use Rattle.awari_facts.specs.Numbers.{is_own, number_in}
+use Rattle.awari_queries.specs.declared.columns.Pair.{Pair}
 use Rattle.awari_rank.specs.Rank.{size_of}
 use Rattle.awari_rank.specs.Tuples.{tuples}
 use Rattle.awari_table.specs.declared.images.Image.{Image}
@@ -18,6 +19,10 @@ columns_of asked = width_of asked.limit asked.pair.second
 
 abbrev pub cells_of : Asked → ℕ
 cells_of asked = rows_of asked * columns_of asked
+
+-- an entry and the rules say both numbers
+abbrev pub IsOwn : Pair → Type 0
+IsOwn pair = (is_own pair.first ≡ true) × (is_own pair.second ≡ true)
 
 -- the cell of two numbers
 pub record IsCell (asked : Asked) (first second : ℤ) (cell : ℕ) : Type 0 where

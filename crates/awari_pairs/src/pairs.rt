@@ -1,29 +1,29 @@
 //! The command `counts --by`: a level's boards by two columns.
 
-ghost use Rattle.std.specs.Prelude.{◌≡◌, ◌<◌, ◌≤◌, List, IfErr, IfOk, Ok, length, true};
+ghost use Rattle.std.specs.Prelude.{◌≡◌, ◌<◌, ◌≤◌, ◌+◌, ℕ, List, IfErr, IfOk, Ok, length, true};
 ghost use Rattle.std.specs.Io.KnownBytes.{Appends};
-ghost use Rattle.awari_facts.specs.Sources.{IsSaidOf, limit_of};
+ghost use Rattle.awari_facts.specs.Sources.{IsSaidOf, images_of, limit_of};
 ghost use Rattle.awari_folder.specs.Contents.{Same};
 ghost use Rattle.awari_folder.specs.State.{Unchanged};
-ghost use Rattle.awari_places.specs.Places.{IsLevelOf, Says};
+ghost use Rattle.awari_places.specs.Places.{Says};
 ghost use Rattle.awari_rank.specs.Tuples.{tuples};
 ghost use Rattle.awari_table.specs.declared.TheConstants.{HIGHEST_LEVEL};
 ghost use Rattle.awari_table.specs.declared.images.Image.{Image};
 ghost use Rattle.awari_pairs.specs.Pairs.{PrintsPairsBy, header_of, pair_lines, row_lines};
-ghost use Rattle.awari_pairs.specs.Tables.{AreCounted, cells_of, rows_of};
+ghost use Rattle.awari_pairs.specs.Tables.{AreCounted, IsOwn, cells_of, rows_of};
 ghost use Rattle.awari_pairs.specs.Wishes.{IsRefused, IsWish};
 
 use crate::ranges::{number_at, width_of};
 use crate::segments::count_on;
 use crate::shown::{Names, PairShare};
-use crate::tables::{Asked, count_pairs, wrong_limit};
+use crate::tables::{Asked, count_own, wrong_limit};
 use awari_answers::{NoAnswer, Replies, print, refuse_level, status_of};
-use awari_facts::{Source, load_to, open_to, read_limit};
+use awari_facts::{Levels, is_own, levels_in, limit_on, load_to, open_to};
 use awari_folder::{Folder, FolderFault};
 use awari_members::{Form, Line, form_of};
+use awari_places::{limit_in_header, read_levels};
 use awari_queries::{CountsQuery, NoColumn, Pair, asked_pair};
 use awari_rank::size;
-use awari_table::Shelf;
 use std::alloc::Global;
 use std::io::Write;
 use std::thread::Threads;
@@ -114,47 +114,65 @@ fn asked_of(wish: Wish, limit: u32) -> Result<Asked, FolderFault>
     })
 }
 
-/// Prints the boards of a verified level by two columns, and says whether the writer took that. Condition: the
+/// Prints the boards of a level in memory by two columns, and says whether the writer took that. Condition: the
 /// level is there. It takes memory for four bytes a pair of numbers, and for a segment of boards. It is refused
-/// as 84 if that is not there.
+/// as 84 if that is not there, and as 83 with V7 if the limit is above the number of boards or a distance is
+/// above the limit.
 fn print_pairs_on<T: Threads + Sync, W: Write>(
     rt: &T,
     alloc: Global,
-    shelf: &Shelf,
+    levels: Levels<'_>,
     wish: Wish,
     writer: &mut W,
 ) -> Result<bool, FolderFault>
-    requires { wish.level < length shelf.now }
-    ensures { result ≡ Ok true → Appends (W.contents writer.old) (W.contents writer.new) (pair_lines wish.form wish.pair shelf.now wish.level (limit_of shelf.now wish.level)) }
+    requires { wish.level < length (images_of levels) }
+    ensures { result ≡ Ok true → Appends (W.contents writer.old) (W.contents writer.new) (pair_lines wish.form wish.pair (images_of levels.entry) wish.level (limit_of (images_of levels.entry) wish.level)) }
 {
     // For the proof: there are at most 25 levels.
-    let _levels = shelf.levels();
-    let asked = asked_of(wish, shelf.level(wish.level).limit())?;
-    let counts = count_on(rt, alloc, shelf, asked)?;
+    let _levels = levels_in(levels);
+    let asked = asked_of(wish, limit_on(levels, wish.level))?;
+    let counts = count_on(rt, alloc, levels, asked)?;
     Ok(print_table(counts.as_slice(), asked, wish.form, writer))
 }
 
-/// Prints the boards of a level by two columns, by what a file says, and says whether the writer took that.
-/// Condition: the level's file is among those that were opened. It takes memory for four bytes a pair
-/// of numbers, and is refused as 84 if that is not there. It is refused as 83 with V7 if the limit is above the
-/// number of boards or a distance is above the limit.
-fn print_pairs_said<F: Folder, W: Write>(
+/// Prints the boards of a level by two columns, by what its file says, and says whether the writer took that.
+/// Conditions: an entry and the rules say both numbers, and the level is at most 24. It takes memory for four
+/// bytes a pair of numbers, and is refused as 84 if that is not there. It is refused as 83 with V7 if the limit
+/// is above the number of boards or a distance is above the limit.
+fn print_own_pairs<F: Folder, W: Write>(
     alloc: Global,
-    levels: u8,
     folder: &mut F,
     wish: Wish,
     writer: &mut W,
 ) -> Result<bool, FolderFault>
-    requires { IsLevelOf levels wish.level }
-    ensures printed { (images : List Image) → Says (F.state folder.old).stands levels images → result ≡ Ok true
+    requires own { IsOwn wish.pair }
+    requires level { wish.level ≤ HIGHEST_LEVEL }
+    ensures printed { (levels : ℕ) (images : List Image) → Says (F.state folder.old).stands levels images → wish.level < levels → result ≡ Ok true
         → Appends (W.contents writer.old) (W.contents writer.new) (pair_lines wish.form wish.pair images wish.level (limit_of images wish.level)) }
     ensures same { Unchanged (F.state folder.old) (F.state folder.new) }
 {
-    let source = Source::Files(levels);
-    let limit = read_limit(source, folder, wish.level)?;
+    let limit = limit_in_header(folder, wish.level)?;
     let asked = asked_of(wish, limit)?;
-    let counts = count_pairs(alloc, source, folder, asked)?;
+    let counts = count_own(alloc, folder, asked)?;
     Ok(print_table(counts.as_slice(), asked, wish.form, writer))
+}
+
+/// Prints the same with the levels up to this one in memory, as the files say them. Condition: the level is at
+/// most 24. It is refused as [`read_levels`] and as [`print_pairs_on`] is.
+fn print_read_pairs<T: Threads + Sync, F: Folder, W: Write>(
+    rt: &T,
+    alloc: Global,
+    folder: &mut F,
+    wish: Wish,
+    writer: &mut W,
+) -> Result<bool, FolderFault>
+    requires { wish.level ≤ HIGHEST_LEVEL }
+    ensures printed { (images : List Image) → Says (F.state folder.old).stands (wish.level + 1) images → result ≡ Ok true
+        → Appends (W.contents writer.old) (W.contents writer.new) (pair_lines wish.form wish.pair images wish.level (limit_of images wish.level)) }
+    ensures same { Unchanged (F.state folder.old) (F.state folder.new) }
+{
+    let said = read_levels(alloc, folder, wish.level + 1)?;
+    print_pairs_on(rt, alloc, Levels::Said(&said), wish, writer)
 }
 
 /// What is printed for a query. It is refused as 96 if no level is asked for, or if the word names no two
@@ -176,8 +194,8 @@ fn wish_of(query: &CountsQuery<'_>) -> Result<Wish, NoAnswer>
 /// Prints how many boards of a level have each pair of numbers, by the first and then by the second. Pairs
 /// that no board has are left out. It may print a refusal, in the form of the lines: 96 if no level is asked
 /// for, or if the word names no two columns. It takes memory for four bytes a pair of numbers, and for the
-/// levels, if they are to be verified. Files that nobody verified are read board by board. For the moves that
-/// keep the value, six bytes more are read for each move.
+/// levels, if they are to be verified or a column is of the moves that keep the value. Other files that nobody
+/// verified are read board by board.
 pub fn run_pairs<T: Threads + Sync, F: Folder, W: Replies>(
     rt: &T,
     alloc: Global,
@@ -191,34 +209,43 @@ pub fn run_pairs<T: Threads + Sync, F: Folder, W: Replies>(
 {
     let wish = match wish_of(query) {
         Ok(wish) => wish,
-        Err(fault) => return refuse_pairs(writer, query, fault),
+        Err(fault) => {
+            let form = form_of(query.json, query.csv);
+            return refuse_level(writer, form, "counts", query.level, fault);
+        }
     };
     if query.unverified {
-        return run_pairs_said(alloc, folder, query, wish, writer);
+        return run_pairs_said(rt, alloc, folder, wish, writer);
     }
     let shelf = match load_to(rt, alloc, folder, wish.level) {
         Ok(shelf) => shelf,
-        Err(fault) => return refuse_pairs(writer, query, fault),
+        Err(fault) => return refuse_pairs(writer, wish, fault),
     };
-    match print_pairs_on(rt, alloc, &shelf, wish, writer) {
+    match print_pairs_on(rt, alloc, Levels::Right(&shelf), wish, writer) {
         Ok(written) => status_of(written),
-        Err(fault) => refuse_pairs(writer, query, NoAnswer::Folder { fault }),
+        Err(fault) => refuse_pairs(writer, wish, NoAnswer::Folder { fault }),
     }
 }
 
 /// Prints the refusal, and gives the status 1.
-fn refuse_pairs<W: Replies>(writer: &mut W, query: &CountsQuery<'_>, fault: NoAnswer) -> u8
+fn refuse_pairs<W: Replies>(writer: &mut W, wish: Wish, fault: NoAnswer) -> u8
     ensures { result ≡ 1 }
 {
-    let form = form_of(query.json, query.csv);
-    refuse_level(writer, form, "counts", query.level, fault)
+    refuse_level(writer, wish.form, "counts", Some(wish.level), fault)
+}
+
+/// Whether an entry and the rules say both numbers of a board.
+fn are_own(pair: Pair) -> bool
+    ensures { result ≡ true → IsOwn pair }
+{
+    is_own(pair.first) && is_own(pair.second)
 }
 
 /// Prints the same by what the files say.
-fn run_pairs_said<F: Folder, W: Replies>(
+fn run_pairs_said<T: Threads + Sync, F: Folder, W: Replies>(
+    rt: &T,
     alloc: Global,
     folder: &mut F,
-    query: &CountsQuery<'_>,
     wish: Wish,
     writer: &mut W,
 ) -> u8
@@ -227,12 +254,18 @@ fn run_pairs_said<F: Folder, W: Replies>(
     ensures found { result ≡ 0 → IsSaidOf wish.level (F.state folder.old).stands
         (λ images. Appends (W.contents writer.old) (W.contents writer.new) (pair_lines wish.form wish.pair images wish.level (limit_of images wish.level))) }
 {
-    let opened = match open_to(folder, wish.level) {
-        Ok(opened) => opened,
-        Err(fault) => return refuse_pairs(writer, query, fault),
-    };
-    match print_pairs_said(alloc, opened.levels, folder, wish, writer) {
+    match open_to(folder, wish.level) {
+        Ok(_) => {}
+        Err(fault) => return refuse_pairs(writer, wish, fault),
+    }
+    if are_own(wish.pair) {
+        return match print_own_pairs(alloc, folder, wish, writer) {
+            Ok(written) => status_of(written),
+            Err(fault) => refuse_pairs(writer, wish, NoAnswer::Folder { fault }),
+        };
+    }
+    match print_read_pairs(rt, alloc, folder, wish, writer) {
         Ok(written) => status_of(written),
-        Err(fault) => refuse_pairs(writer, query, NoAnswer::Folder { fault }),
+        Err(fault) => refuse_pairs(writer, wish, NoAnswer::Folder { fault }),
     }
 }

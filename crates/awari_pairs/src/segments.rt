@@ -1,6 +1,7 @@
-//! How many boards of a verified level have each pair of numbers, by threads.
+//! How many boards of a level in memory have each pair of numbers, by threads.
 
 ghost use Rattle.std.specs.Prelude.{◌≡◌, ◌<◌, ◌≤◌, ◌+◌, ◌^◌, ℕ, List, None, Some, IfOk, length, slice_index, slice_index_or, true, vec_len};
+ghost use Rattle.awari_facts.specs.Sources.{images_of};
 ghost use Rattle.awari_rank.specs.Rank.{size_of};
 ghost use Rattle.awari_rank.specs.Tuples.{tuples};
 ghost use Rattle.awari_table.specs.declared.images.Image.{Image};
@@ -8,10 +9,9 @@ ghost use Rattle.awari_pairs.specs.declared.tables.Asked.{Asked as AnAsked};
 ghost use Rattle.awari_pairs.specs.Tables.{AreCellsFrom, AreCounted, AreCountedTo, IsCellAt, IsSegmentOf, cells_of};
 
 use crate::tables::{Asked, cell_at, count, new_counts, wrong_limit};
-use awari_facts::{Seen, entry_on, number_on};
+use awari_facts::{Levels, Seen, entry_on, levels_in, number_of};
 use awari_folder::FolderFault;
 use awari_rank::size;
-use awari_table::Shelf;
 use rayon::prelude::*;
 use std::alloc::Global;
 use std::thread::Threads;
@@ -30,19 +30,19 @@ struct Segment {
 
 /// The cell of the board of a rank. There is none if a number is none that its column may have. Conditions:
 /// the level is there, and has that many boards; the cells fit in memory.
-fn cell_on(shelf: &Shelf, asked: Asked, rank: u32) -> Option<usize>
-    requires level { asked.level < length shelf.now }
+fn cell_on(levels: Levels<'_>, asked: Asked, rank: u32) -> Option<usize>
+    requires level { asked.level < length (images_of levels) }
     requires rank { rank < size_of asked.level }
     requires cells { cells_of asked < 2 ^ 64 }
-    ensures { IsCellAt shelf.now asked rank result }
+    ensures { IsCellAt (images_of levels.entry) asked rank result }
 {
     // For the proof: there are at most 25 levels.
-    let _levels = shelf.levels();
+    let _levels = levels_in(levels);
     let level = asked.level;
-    let entry = entry_on(shelf, level, rank);
+    let entry = entry_on(levels, level, rank);
     let seen = Seen { level, rank, entry };
-    let first = number_on(shelf, asked.pair.first, &seen);
-    let second = number_on(shelf, asked.pair.second, &seen);
+    let first = number_of(levels, asked.pair.first, &seen);
+    let second = number_of(levels, asked.pair.second, &seen);
     cell_at(asked, first, second)
 }
 
@@ -50,26 +50,26 @@ fn cell_on(shelf: &Shelf, asked: Asked, rank: u32) -> Option<usize>
 /// level is there, and has that many boards; the cells fit in memory.
 fn find_cells<T: Threads + Sync>(
     rt: &T,
-    shelf: &Shelf,
+    levels: Levels<'_>,
     segment: Segment,
     found: &mut [Option<usize>],
 )
-    requires segment { IsSegmentOf shelf.now segment (length found.old) }
+    requires segment { IsSegmentOf (images_of levels) segment (length found.old) }
     requires cells { cells_of segment.asked < 2 ^ 64 }
     ensures long { length found.new ≡ length found.old }
-    ensures cells { AreCellsFrom shelf.now segment.asked segment.first found.new }
+    ensures cells { AreCellsFrom (images_of levels.entry) segment.asked segment.first found.new }
 {
     let Segment { asked, first } = segment;
     par_for_each_mut(
         rt,
         found,
         |place: usize, cell: &mut Option<usize>|
-            requires level { asked.level < length shelf.now }
+            requires level { asked.level < length (images_of levels) }
             requires rank { first + place < size_of asked.level }
             requires fits { first + place < 4294967296 }
             requires cells { cells_of asked < 2 ^ 64 }
-            ensures { IsCellAt shelf.entry.now asked (first + place) cell.new }
-        { *cell = cell_on(shelf, asked, first + place as u32) },
+            ensures { IsCellAt (images_of levels.entry) asked (first + place) cell.new }
+        { *cell = cell_on(levels, asked, first + place as u32) },
     );
 }
 
@@ -96,37 +96,37 @@ fn count_found(counts: &mut Vec<u32>, found: &[Option<usize>]) -> bool
 /// table has all cells, and no more boards than the ranks before the segment were counted.
 fn count_segment<T: Threads + Sync>(
     rt: &T,
-    shelf: &Shelf,
+    levels: Levels<'_>,
     segment: Segment,
     found: &mut [Option<usize>],
     counts: &mut Vec<u32>,
 ) -> bool
-    requires segment { IsSegmentOf shelf.now segment (length found.old) }
+    requires segment { IsSegmentOf (images_of levels) segment (length found.old) }
     requires long { vec_len counts.old ≡ cells_of segment.asked }
     requires few { (k : ℕ) → slice_index counts.old.items k ≤ segment.first }
     ensures long { vec_len counts.new ≡ cells_of segment.asked }
     ensures few { (k : ℕ) → slice_index counts.new.items k ≤ segment.first + length found.old }
-    ensures counted { result ≡ true → AreCountedTo shelf.now segment.asked segment.first counts.old.items → AreCountedTo shelf.now segment.asked (segment.first + length found.old) counts.new.items }
+    ensures counted { result ≡ true → AreCountedTo (images_of levels.entry) segment.asked segment.first counts.old.items → AreCountedTo (images_of levels.entry) segment.asked (segment.first + length found.old) counts.new.items }
 {
-    find_cells(rt, shelf, segment, found);
+    find_cells(rt, levels, segment, found);
     count_found(counts, found)
 }
 
-/// How many boards of a verified level are in each cell. Condition: the level is there. It takes memory for
+/// How many boards of a level are in each cell. Condition: the level is there. It takes memory for
 /// four bytes a cell, and for a segment of boards. It is refused as 84 if that is not there, and as 83 with V7
 /// if a distance is above the limit. By the level's own limit none is.
 pub(crate) fn count_on<T: Threads + Sync>(
     rt: &T,
     alloc: Global,
-    shelf: &Shelf,
+    levels: Levels<'_>,
     asked: Asked,
 ) -> Result<Vec<u32>, FolderFault>
-    requires { asked.level < length shelf.now }
+    requires { asked.level < length (images_of levels) }
     ensures long { IfOk result (λ counts. vec_len counts ≡ cells_of asked) }
-    ensures counted { IfOk result (λ counts. AreCounted shelf.now asked (tuples 12 asked.level) counts.items) }
+    ensures counted { IfOk result (λ counts. AreCounted (images_of levels.entry) asked (tuples 12 asked.level) counts.items) }
 {
     // For the proof: there are at most 25 levels.
-    let _levels = shelf.levels();
+    let _levels = levels_in(levels);
     let boards = size(asked.level);
     let mut counts = match new_counts(alloc, asked) {
         Ok(counts) => counts,
@@ -140,7 +140,7 @@ pub(crate) fn count_on<T: Threads + Sync>(
         let many = (boards - first).min(SEGMENT);
         found.truncate(many as usize);
         let segment = Segment { asked, first };
-        if !count_segment(rt, shelf, segment, found.as_mut_slice(), &mut counts) {
+        if !count_segment(rt, levels, segment, found.as_mut_slice(), &mut counts) {
             return Err(wrong_limit(asked.level));
         }
         first += many;

@@ -1,18 +1,20 @@
 //! How many boards of a level have each pair of numbers of two columns.
 
-ghost use Rattle.std.specs.Prelude.{◌≡◌, ◌<◌, ◌+◌, ◌^◌, ℕ, List, IfOk, IfSome, IsNone, slice_index, slice_set, vec_len};
-ghost use Rattle.awari_places.specs.Places.{IsLevelOf};
+ghost use Rattle.std.specs.Prelude.{◌≡◌, ◌<◌, ◌≤◌, ◌+◌, ◌^◌, ℕ, List, IfErr, IfOk, IfSome, IsNone, slice_index, slice_set, vec_len};
 ghost use Rattle.awari_facts.specs.Numbers.{IsAt};
-ghost use Rattle.awari_facts.specs.Sources.{IsThere, SaysBy, levels_of};
+ghost use Rattle.awari_folder.specs.FolderFault.{Names};
 ghost use Rattle.awari_folder.specs.State.{Unchanged};
+ghost use Rattle.awari_places.specs.Places.{Says};
+ghost use Rattle.awari_rank.specs.Rank.{size_of};
 ghost use Rattle.awari_rank.specs.Tuples.{tuples};
+ghost use Rattle.awari_table.specs.declared.TheConstants.{HIGHEST_LEVEL};
 ghost use Rattle.awari_table.specs.declared.images.Image.{Image};
-ghost use Rattle.awari_pairs.specs.Tables.{AreCounted, IsCell, IsCellOf, cells_of};
+ghost use Rattle.awari_pairs.specs.Tables.{AreCounted, IsCell, IsCellOf, IsOwn, cells_of};
 
 use crate::ranges::{place_of, width_of};
-use awari_facts::{Seen, Source, number_of, read_entry};
+use awari_facts::{Seen, own_number};
 use awari_folder::{Folder, FolderFault};
-use awari_places::Run;
+use awari_places::{Run, entry_in_run};
 use awari_queries::Pair;
 use awari_rank::size;
 use awari_verify::{Rule, VerifyFault};
@@ -33,6 +35,7 @@ pub(crate) struct Asked {
 pub(crate) fn new_counts(alloc: Global, asked: Asked) -> Result<Vec<u32>, FolderFault>
     ensures long { IfOk result (λ counts. vec_len counts ≡ cells_of asked) }
     ensures zeros { IfOk result (λ counts. (k : ℕ) → slice_index counts.items k ≡ 0) }
+    ensures fault { IfErr result (λ fault. fault ≡ FolderFault.Memory) }
 {
     let rows = width_of(asked.pair.first, asked.limit);
     let columns = width_of(asked.pair.second, asked.limit);
@@ -58,24 +61,24 @@ pub(crate) fn cell_at(asked: Asked, first: i64, second: i64) -> Option<usize>
     Some(row * width_of(asked.pair.second, asked.limit) + column)
 }
 
-/// The cell of a board. It is refused as 83 with V7 if a number is none that its column may have, as a
-/// distance above the limit is. Conditions: the level is there, and has that many boards; the cells fit in
-/// memory.
-fn cell_of<F: Folder>(
-    source: Source<'_>,
-    folder: &mut F,
-    asked: Asked,
-    seen: &Seen,
-) -> Result<usize, FolderFault>
-    requires there { IsThere (levels_of source) seen.now.level seen.now.rank }
+/// The cell of a board, if its entry and the rules say both numbers. It is refused as 83 with V7 if a number is
+/// none that its column may have, as a distance above the limit is. Conditions: the level is at most 24, and has
+/// that many boards; the cells fit in memory.
+fn own_cell(asked: Asked, seen: &Seen) -> Result<usize, FolderFault>
+    requires own { IsOwn asked.pair }
+    requires level { seen.now.level ≤ HIGHEST_LEVEL }
+    requires rank { seen.now.rank < size_of seen.now.level }
     requires cells { cells_of asked < 2 ^ 64 }
     ensures inside { IfOk result (λ cell. cell < cells_of asked) }
-    ensures cell { (images : List Image) (board : List ℕ) → SaysBy source.entry (F.state folder.old).stands images → IsAt images seen.now.level seen.now.rank board seen.now.entry
-        → IfOk result (IsCellOf images asked board) }
-    ensures same { Unchanged (F.state folder.old) (F.state folder.new) }
+    ensures cell { (images : List Image) (board : List ℕ) → IsAt images seen.now.level seen.now.rank board seen.now.entry → IfOk result (IsCellOf images asked board) }
+    ensures named { IfErr result (Names asked.level) }
 {
-    let first = number_of(source, folder, asked.pair.first, seen)?;
-    let second = number_of(source, folder, asked.pair.second, seen)?;
+    let Some(first) = own_number(asked.pair.first, seen) else {
+        unreachable!()
+    };
+    let Some(second) = own_number(asked.pair.second, seen) else {
+        unreachable!()
+    };
     match cell_at(asked, first, second) {
         Some(cell) => Ok(cell),
         None => Err(wrong_limit(asked.level)),
@@ -92,35 +95,38 @@ pub(crate) fn count(counts: &mut Vec<u32>, cell: usize)
     counts[cell] += 1;
 }
 
-/// How many boards of a level are in each cell. Condition: the source has the level. It takes memory for
-/// four bytes a cell, and is refused as 84 if that is not there. It is refused as 83 with V7 if a distance is
-/// above the limit.
-pub(crate) fn count_pairs<F: Folder>(
+/// How many boards of a level are in each cell, by its file where it lies. Conditions: an entry and the rules say
+/// both numbers, and the level is at most 24. It takes memory for four bytes a cell, and is refused as 84 if that
+/// is not there. It is refused as 83 with V7 if a distance is above the limit, and as
+/// [`entry_in_run`] is.
+pub(crate) fn count_own<F: Folder>(
     alloc: Global,
-    source: Source<'_>,
     folder: &mut F,
     asked: Asked,
 ) -> Result<Vec<u32>, FolderFault>
-    requires { IsLevelOf (levels_of source) asked.level }
+    requires own { IsOwn asked.pair }
+    requires level { asked.level ≤ HIGHEST_LEVEL }
     ensures long { IfOk result (λ counts. vec_len counts ≡ cells_of asked) }
-    ensures counted { (images : List Image) → SaysBy source.entry (F.state folder.old).stands images
+    ensures counted { (levels : ℕ) (images : List Image) → Says (F.state folder.old).stands levels images → asked.level < levels
         → IfOk result (λ counts. AreCounted images asked (tuples 12 asked.level) counts.items) }
     ensures same { Unchanged (F.state folder.old) (F.state folder.new) }
+    ensures named { IfErr result (Names asked.level) }
 {
     let level = asked.level;
     let mut counts = new_counts(alloc, asked)?;
     let mut run = Run::new();
     for rank in 0..size(level) {
-        let entry = read_entry(source, folder, &mut run, level, rank)?;
-        let seen = Seen { level, rank, entry };
-        let cell = cell_of(source, folder, asked, &seen)?;
+        let entry = entry_in_run(folder, &mut run, level, rank)?;
+        let cell = own_cell(asked, &Seen { level, rank, entry })?;
         count(&mut counts, cell);
     }
     Ok(counts)
 }
 
 /// The refusal of a level that has a distance above its limit.
-pub(crate) fn wrong_limit(level: u8) -> FolderFault {
+pub(crate) fn wrong_limit(level: u8) -> FolderFault
+    ensures { Names level result }
+{
     FolderFault::Verify {
         level,
         fault: VerifyFault::Refused {

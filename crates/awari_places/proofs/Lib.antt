@@ -5,3 +5,4 @@ pub mod Refusing
 pub mod Framing
 pub mod Playing
 pub mod Running
+pub mod Collecting

@@ -5,6 +5,7 @@ use Rattle.awari_file.specs.FileText.{entry_place}
 use Rattle.awari_file.specs.Reading.{entry_of}
 use Rattle.awari_file.specs.declared.faults.FileFault.{FileFault}
 use Rattle.awari_file.specs.declared.faults.FileFault.TheVariants as faults
+use Rattle.awari_folder.specs.FolderFault.{Names}
 use Rattle.awari_folder.specs.declared.faults.FolderFault.{FolderFault}
 use Rattle.awari_folder.specs.declared.faults.FolderFault.TheVariants.{File, Open, Verify, Memory}
 use Rattle.awari_rank.specs.Rank.{rank_of}
@@ -62,6 +63,12 @@ pub record IsLookFault (levels : ℕ) (stands : ℕ → Option (Option (List ℕ
 -- The refusal of a header alone: that of the file that has the level's name, or 81 with 68 if there is none.
 abbrev pub IsLimitFault : ℕ → Option (List ℕ) → FolderFault → Type 0
 IsLimitFault level name fault = IsFrameFault level name fault ⊎ ((name ≡ None) × (fault ≡ File level faults.Read))
+
+-- One of these levels is not read: the refusal is that of its limit, or of an entry, and then names the level.
+pub record IsUnread (levels : ℕ) (names : ℕ → Option (List ℕ)) (fault : FolderFault) : Type 0 where
+  pub level : ℕ
+  pub low : level < levels
+  pub due : IsLimitFault level (names level) fault ⊎ Names level fault
 
 -- the pit, if there is one, is not legal on the board
 abbrev pub IsNotLegal : List ℕ → Option ℕ → Type 0

@@ -1,5 +1,5 @@
 -- What the bytes of files say of boards, each at its place, whether that is right or not.
-use Rattle.std.specs.Prelude.{◌≡◌, ◌<◌, ◌≤◌, ◌+◌, ℕ, List, map, take, drop, Option, Some, None, Result, Ok, Err}
+use Rattle.std.specs.Prelude.{◌≡◌, ◌<◌, ◌≤◌, ◌+◌, ℕ, List, length, map, slice_index_or, take, drop, Option, Some, None, Result, Ok, Err}
 use Rattle.std.specs.List.{range_with_len}
 use Rattle.awari_rank.specs.Rank.{size_of}
 use Rattle.awari_table.specs.Images.{no_entry, no_image}
@@ -53,3 +53,9 @@ pub record Says (stands : ℕ → Option (Option (List ℕ))) (levels : ℕ) (im
 pub record IsLevelOf (levels level : ℕ) : Type 0 where
   pub known : level < levels
   pub few : levels ≤ HIGHEST_LEVEL + 1
+
+-- Each of these levels has its number, and an entry for each of its boards; they are no more than all.
+pub record AreFormed (images : List Image) : Type 0 where
+  pub few : length images ≤ HIGHEST_LEVEL + 1
+  pub number : (level : ℕ) → level < length images → (slice_index_or images level no_image).level ≡ level
+  pub sized : (level : ℕ) → level < length images → length (slice_index_or images level no_image).entries ≡ size_of level

@@ -2,7 +2,8 @@
 //!
 //! [`open_levels`] looks at the headers and the lengths of the files, and [`entry`] reads the six bytes
 //! that stand for a board. What is answered is what the files say, whether that is right or not. If
-//! `verify` says yes to the files, it is the truth: [`right_files_say_their_shelf`] says so.
+//! `verify` says yes to the files, it is the truth: [`right_files_say_their_shelf`] says so. Whoever looks at
+//! many boards of a level has the levels in memory, by [`read_levels`].
 //!
 //! The entry of a board, looked up in a folder, in `crates/awari_file_tests/src/plain.rt`:
 //!
@@ -25,6 +26,7 @@ mod opening;
 mod plies;
 mod replies;
 mod runs;
+mod said;
 mod weighing;
 mod worths;
 
@@ -36,4 +38,5 @@ pub use longest::longest_line;
 pub use opening::{Opened, limit_in_header, open_levels};
 pub use plies::line_plies;
 pub use runs::entry_in_run;
+pub use said::{Said, read_levels};
 pub use weighing::weigh;

@@ -5,7 +5,7 @@ use Rattle.awari_queries.specs.Draws.{taken}
 use Rattle.awari_levels.proofs.HeldLaws.{many-held}
 use Rattle.awari_levels.proofs.WalkLaws.{taken-all}
 use Rattle.awari_levels.specs.Listing.{due_boards, farthest_of, taken_boards}
-use Rattle.awari_levels.specs.declared.walks.Asked.{Asked}
+use Rattle.awari_levels.specs.declared.asked.Asked.{Asked}
 use Rattle.awari_levels.proofs.listing.count_boards.Goals as goal
 
 pub returns-clause-counted : goal.returns-clause-counted

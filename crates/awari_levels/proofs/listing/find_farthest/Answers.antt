@@ -23,17 +23,17 @@ loop-rank-preserved g c =
     let low : c.args.asked.level ≤ 24 = omega (arith, c.requires.known, c.requires.few) in
     let inside : c.loop-rank.rank < size_of c.args.asked.level = omega (arith, c.loop-rank-test.true, c.size-rank-end.ensures.boards) in
     record {
-      unchanged = unchanged_then _ _ _ i.unchanged (unchanged_then _ _ _ c.in_ok-entry.ensures.same c.in_ok-key.ensures.same);
+      unchanged = unchanged_then _ _ _ i.unchanged c.in_ok-entry.ensures.same;
       found = λ images says.
           let before = i.found images says in
           let still = says_still c.args.asked.source _ _ images i.unchanged.stands says in
           let (board, at) = some_entry images c.args.asked.level c.loop-rank.rank c.in_ok-entry.entry (c.in_ok-entry.ensures.entry images still before.0) low inside in
           let after = says_still c.args.asked.source _ _ images c.in_ok-entry.ensures.same.stands still in
-          let key = c.in_ok-key.ensures.key images after before.1.0 board at in (
+          let key = c.look-key.ensures.key _ images after before.1.0 board at in (
             c.in_ok-entry.ensures.run images still before.0,
             (
-              c.in_ok-key.ensures.keys images after before.1.0,
-              c.farther-farthest.ensures ∙ ap (λ b. cond b (max c.loop-rank.farthest c.in_ok-entry.entry.dist) c.loop-rank.farthest) (c.is_some.ensures ∙ within-key c.args.asked.wanted.now images board c.in_ok-key.key key)
+              c.look-key.ensures.keys _ images after before.1.0,
+              c.farther-farthest.ensures ∙ ap (λ b. cond b (max c.loop-rank.farthest c.in_ok-entry.entry.dist) c.loop-rank.farthest) (c.is_some.ensures ∙ within-key c.args.asked.wanted.now images board c.look-key.result key)
                   ∙ farthest-more c.args.asked.wanted.now images c.args.asked.level c.loop-rank.rank c.loop-rank.farthest board c.in_ok-entry.entry before.1.1 at,
             ),
           );

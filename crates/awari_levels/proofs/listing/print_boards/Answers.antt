@@ -5,7 +5,7 @@ use Rattle.awari_queries.specs.Holding.{first}
 use Rattle.awari_levels.proofs.HeldLaws.{many-all}
 use Rattle.awari_levels.specs.Listing.{AppendsLines, taken_boards}
 use Rattle.awari_levels.specs.Walks.{IsChoice}
-use Rattle.awari_levels.specs.declared.walks.Asked.{Asked}
+use Rattle.awari_levels.specs.declared.asked.Asked.{Asked}
 use Rattle.awari_levels.proofs.listing.print_boards.Goals as goal
 
 pub returns-in-None-clause-printed : goal.returns-in-None-clause-printed

@@ -16,7 +16,7 @@ pub loop-place-preserved : goal.loop-place-preserved
 loop-place-preserved g c =
     let i = c.loop-place.invariant in
     record {
-      unchanged = unchanged_then _ _ _ i.unchanged (unchanged_then _ _ _ c.in_ok-entry.ensures.same c.in_ok-numbers.ensures.same);
+      unchanged = unchanged_then _ _ _ i.unchanged c.in_ok-entry.ensures.same;
       listed = λ images says boards held.
           let still = says_still c.args.asked.source _ _ images i.unchanged.stands says in
           let next = held-next c.args.asked.wanted.now images c.args.asked.level c.loop-place.place boards c.args.held.now _ c.unrank-board.result held c.loop-place-test.true c.unrank-board.ensures.board
@@ -25,8 +25,8 @@ loop-place-preserved g c =
           (c.in_ok-entry.ensures.entry images still ∙ ap (entry_of images) c.new.ensures) in
           subst (λ bs. Lists c.args.asked.wanted.now images bs (g.W.Write.contents c.args.writer.now) (g.W.Write.contents c.push_board.new.writer) c.push_board.new.batch.items)
           (sym (take-read boards c.loop-place.place c.unrank-board.result next))
-          (lists-more c.args.asked.wanted.now images (take c.loop-place.place boards) c.unrank-board.result c.in_ok-numbers.numbers _ _ _ _ _ (i.listed images says boards held)
-          (c.in_ok-numbers.ensures.numbers images (says_still c.args.asked.source _ _ images c.in_ok-entry.ensures.same.stands still) c.unrank-board.result at) (c.push_board.ensures c.if-not-push_board.false));
+          (lists-more c.args.asked.wanted.now images (take c.loop-place.place boards) c.unrank-board.result c.numbers_of-numbers.result _ _ _ _ _ (i.listed images says boards held)
+          (c.numbers_of-numbers.ensures _ images (says_still c.args.asked.source _ _ images c.in_ok-entry.ensures.same.stands still) c.unrank-board.result at) (c.push_board.ensures c.if-not-push_board.false));
     }
 
 pub returns-clause-printed : goal.returns-clause-printed

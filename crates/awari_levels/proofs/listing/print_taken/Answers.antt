@@ -34,18 +34,18 @@ loop-rank-preserved g c =
     let i = c.loop-rank.invariant in
     record {
       few = c.in_ok-taken.ensures.walked;
-      unchanged = unchanged_then _ _ _ i.unchanged (unchanged_then _ _ _ c.in_ok-taken.ensures.same c.in_ok-numbers.ensures.same);
+      unchanged = unchanged_then _ _ _ i.unchanged c.in_ok-taken.ensures.same;
       listed = λ images says choice.
           let before = i.listed images says choice in
           let stepped = c.in_ok-taken.ensures.stepped images (says_still c.args.choice.asked.source _ _ images i.unchanged.stands says) choice.farthest before.0 before.1 in
           let taken = subst (λ t. Steps c.args.choice.asked.wanted.now images c.args.choice.asked.level c.loop-rank.rank c.args.choice.sample before.0 t c.step.new.walk) c.in-Some.is stepped in
           let same = same_board c.args.choice.asked.level c.loop-rank.rank taken.0 c.unrank.result c.unrank.ensures.board c.unrank.ensures.stones c.unrank.ensures.rank taken.1.at.listed in
           let still = says_still c.args.choice.asked.source _ _ images i.unchanged.stands says in
-          let numbers = c.in_ok-numbers.ensures.numbers images (says_still c.args.choice.asked.source _ _ images c.in_ok-taken.ensures.same.stands still) taken.0 taken.1.at in (
+          let numbers = c.numbers_of-numbers.ensures _ images (says_still c.args.choice.asked.source _ _ images c.in_ok-taken.ensures.same.stands still) taken.0 taken.1.at in (
             before.0 ++ taken.0 ∷ [],
             taken.2,
-            lists-more c.args.choice.asked.wanted.now images before.0 taken.0 c.in_ok-numbers.numbers _ _ _ _ _ before.2 numbers
-                (subst (λ b. Passes (g.W.Write.contents c.loop-rank.writer) (g.W.Write.contents c.push_board.new.writer) c.loop-rank.batch.items c.push_board.new.batch.items (line_of c.args.choice.asked.wanted.now.form b c.in_ok-numbers.numbers)) same (c.push_board.ensures c.if-not-push_board.false)),
+            lists-more c.args.choice.asked.wanted.now images before.0 taken.0 c.numbers_of-numbers.result _ _ _ _ _ before.2 numbers
+                (subst (λ b. Passes (g.W.Write.contents c.loop-rank.writer) (g.W.Write.contents c.push_board.new.writer) c.loop-rank.batch.items c.push_board.new.batch.items (line_of c.args.choice.asked.wanted.now.form b c.numbers_of-numbers.result)) same (c.push_board.ensures c.if-not-push_board.false)),
             left-more c.args.choice.asked.wanted.now.most c.loop-rank.left c.was_last.new.left before.0 taken.0 before.3
                 (λ one. let last : c.was_last.result ≡ true = c.was_last.ensures.last.1 one in cc) c.was_last.ensures.left,
           );
@@ -60,11 +60,11 @@ returns-then-was_last-clause-printed g c = λ images says choice done.
     let taken = subst (λ t. Steps c.args.choice.asked.wanted.now images c.args.choice.asked.level c.loop-rank.rank c.args.choice.sample before.0 t c.step.new.walk) c.in-Some.is stepped in
     let same = same_board c.args.choice.asked.level c.loop-rank.rank taken.0 c.unrank.result c.unrank.ensures.board c.unrank.ensures.stones c.unrank.ensures.rank taken.1.at.listed in
     let still = says_still c.args.choice.asked.source _ _ images i.unchanged.stands says in
-    let numbers = c.in_ok-numbers.ensures.numbers images (says_still c.args.choice.asked.source _ _ images c.in_ok-taken.ensures.same.stands still) taken.0 taken.1.at in
+    let numbers = c.numbers_of-numbers.ensures _ images (says_still c.args.choice.asked.source _ _ images c.in_ok-taken.ensures.same.stands still) taken.0 taken.1.at in
     let others = drawn-before _ images c.args.choice.asked.level _ _ _ _ (before.0 ++ taken.0 ∷ []) taken.2.drawn in
     lists-all c.args.choice.asked.wanted.now images (before.0 ++ taken.0 ∷ []) _ _ _ _ _
-    (lists-more c.args.choice.asked.wanted.now images before.0 taken.0 c.in_ok-numbers.numbers _ _ _ _ _ before.2 numbers
-    (subst (λ b. Passes (g.W.Write.contents c.loop-rank.writer) (g.W.Write.contents c.push_board.new.writer) c.loop-rank.batch.items c.push_board.new.batch.items (line_of c.args.choice.asked.wanted.now.form b c.in_ok-numbers.numbers)) same (c.push_board.ensures c.if-not-push_board.false)))
+    (lists-more c.args.choice.asked.wanted.now images before.0 taken.0 c.numbers_of-numbers.result _ _ _ _ _ before.2 numbers
+    (subst (λ b. Passes (g.W.Write.contents c.loop-rank.writer) (g.W.Write.contents c.push_board.new.writer) c.loop-rank.batch.items c.push_board.new.batch.items (line_of c.args.choice.asked.wanted.now.form b c.numbers_of-numbers.result)) same (c.push_board.ensures c.if-not-push_board.false)))
     (first-last c.args.choice.asked.wanted.now.most c.loop-rank.left before.0 others.0 taken.0 before.3 (c.was_last.ensures.last.0 c.if-was_last.true)
     ∙ ap (first c.args.choice.asked.wanted.now.most) (taken-all _ images c.args.choice.asked.level c.args.choice ((before.0 ++ taken.0 ∷ []) ++ others.0) choice others.1))
     (rw c.as_slice.ensures.value at (c.print_bytes.ensures written))

@@ -1,4 +1,5 @@
 use Rattle.std.proofs.Common.{◌≤◌, ◌<◌, ◌+◌, arith}
+use Rattle.awari_facts.specs.Sources.{images_of}
 use Rattle.awari_levels.proofs.SourceLaws.{at_listed, listed_below}
 use Rattle.awari_rank.specs.Rank.{size_of}
 use Rattle.awari_levels.proofs.segments.key_behind.Goals as goal
@@ -9,6 +10,6 @@ returns-then-place-saturating_sub c = λ board listed.
 
 pub returns : goal.returns
 returns c = λ board listed.
-    let low : c.args.first.now.level ≤ 24 = omega (arith, c.requires, c.levels-levels.ensures.shelf.few) in
+    let low : c.args.first.now.level ≤ 24 = omega (arith, c.requires, c.levels_in-levels.ensures.formed.few) in
     let inside : c.args.first.now.rank + c.args.place < size_of c.args.first.now.level = omega (arith, c.if-place-saturating_sub.false, c.saturating_sub.ensures, c.size.ensures.boards) in
-    c.key_on.ensures board (at_listed c.args.shelf.now c.args.first.now.level _ board c.entry_on-entry.result c.entry_on-entry.ensures low inside listed)
+    c.key_on.ensures board (at_listed (images_of c.args.levels) c.args.first.now.level _ board c.entry_on-entry.result c.entry_on-entry.ensures low inside listed)

@@ -17,5 +17,5 @@ returns-then-wanted-clause-none c = λ images board at none.
 
 pub returns-clause-some : goal.returns-clause-some
 returns-clause-some c = λ images board at.
-    weighed-last c.args.wanted.now images board _ _ refl (c.asks_moves.ensures c.if-asks_moves.false (gains_in images board) (entry_of images board).value) (waits-unasked c.args.wanted.now images board c.if-wanted.false)
+    weighed-last c.args.wanted.now images board _ _ refl (c.asks_moves.ensures.none c.if-asks_moves.false (gains_in images board) (entry_of images board).value) (waits-unasked c.args.wanted.now images board c.if-wanted.false)
     ∙ within-weighed c.args.wanted.now images board c.args.seen.now.entry at.entry (sym c.fits.ensures ∙ c.if-not-fits.false) (sym (c.suits_rules.ensures images board at) ∙ c.if-not-suits_rules.false)

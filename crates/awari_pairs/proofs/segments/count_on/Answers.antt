@@ -1,4 +1,5 @@
 use Rattle.std.proofs.Common.{◌≡◌, ◌+◌, length, subst, arith}
+use Rattle.awari_facts.specs.Sources.{images_of}
 use Rattle.awari_pairs.proofs.CellLaws.{counted-all}
 use Rattle.awari_pairs.specs.Tables.{AreCountedTo}
 use Rattle.awari_pairs.proofs.segments.count_on.Goals as goal
@@ -13,10 +14,10 @@ loop-first-preserved g c =
       long = c.count_segment.ensures.long;
       few = λ k. omega (arith, c.count_segment.ensures.few k, long);
       counted =
-          subst (λ n. AreCountedTo c.args.shelf.now c.args.asked (c.loop-first.first + n) c.count_segment.new.counts.items) long (c.count_segment.ensures.counted c.if-not-count_segment.false i.counted);
+          subst (λ n. AreCountedTo (images_of c.args.levels) c.args.asked (c.loop-first.first + n) c.count_segment.new.counts.items) long (c.count_segment.ensures.counted c.if-not-count_segment.false i.counted);
     }
 
 pub returns-clause-counted : goal.returns-clause-counted
 returns-clause-counted g c =
     let i = c.loop-first.invariant in
-    counted-all c.args.shelf.now c.args.asked c.loop-first.first c.loop-first.counts.items i.counted (omega (arith, i.within, c.loop-first-test.false, c.size-boards.ensures.boards))
+    counted-all (images_of c.args.levels) c.args.asked c.loop-first.first c.loop-first.counts.items i.counted (omega (arith, i.within, c.loop-first-test.false, c.size-boards.ensures.boards))

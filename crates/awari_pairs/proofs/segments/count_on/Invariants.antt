@@ -1,4 +1,5 @@
 use Rattle.std.proofs.Common.{◌≡◌, ℕ, ◌-◌, ◌≤◌, min, get_or, vec_len}
+use Rattle.awari_facts.specs.Sources.{images_of}
 use Rattle.awari_pairs.specs.Tables.{AreCountedTo, cells_of}
 use Rattle.awari_pairs.proofs.segments.count_on.Given as goal
 
@@ -8,7 +9,7 @@ invariant-loop-first g l = record {
   room : min (l.boards - l.first) 65536 ≤ vec_len l.found;
   long : vec_len l.counts ≡ cells_of l.asked;
   few : (k : ℕ) → get_or l.counts.items k 0 ≤ l.first;
-  counted : AreCountedTo l.shelf l.asked l.first l.counts.items;
+  counted : AreCountedTo (images_of l.levels) l.asked l.first l.counts.items;
 }
 
 abbrev pub decreases-loop-first : goal.decreases-loop-first

@@ -1,15 +1,15 @@
-use Rattle.std.proofs.Common.{◌≡◌, ℕ, ◌≤◌, List, get_or, vec_len}
-use Rattle.awari_facts.specs.Sources.{SaysBy}
+use Rattle.std.proofs.Common.{◌≡◌, ℕ, ◌<◌, ◌≤◌, List, get_or, vec_len}
 use Rattle.awari_folder.specs.State.{Unchanged}
+use Rattle.awari_places.specs.Places.{Says}
 use Rattle.awari_places.specs.Runs.{IsRunOf}
 use Rattle.awari_table.specs.declared.images.Image.{Image}
 use Rattle.awari_pairs.specs.Tables.{AreCountedTo, cells_of}
-use Rattle.awari_pairs.proofs.tables.count_pairs.Given as goal
+use Rattle.awari_pairs.proofs.tables.count_own.Given as goal
 
 abbrev pub invariant-loop-rank : goal.invariant-loop-rank
 invariant-loop-rank g l = record {
   long : vec_len l.counts ≡ cells_of l.asked;
   few : (k : ℕ) → get_or l.counts.items k 0 ≤ l.rank;
   unchanged : Unchanged (g.F.Folder.state l.fn.folder) (g.F.Folder.state l.folder);
-  counted : (images : List Image) → SaysBy l.source (g.F.Folder.state l.fn.folder).stands images → IsRunOf images l.asked.level l.run × AreCountedTo images l.asked l.rank l.counts.items;
+  counted : (levels : ℕ) (images : List Image) → Says (g.F.Folder.state l.fn.folder).stands levels images → l.asked.level < levels → IsRunOf images l.asked.level l.run × AreCountedTo images l.asked l.rank l.counts.items;
 }
