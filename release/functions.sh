@@ -152,6 +152,35 @@ build_library_in() {
   link_library "$1/crates/awari_c/out/libawari_c.a" "$2"
 }
 
+# Builds a static library of a crate by this toolchain, over the crates that a gate has just built in this copy.
+# It proves the crate itself; `rt lib` would prove those below it once more.
+build_gated() {
+  local copy=$1 crate=$2 toolchain=$3 to=$4 kit name log libraries=()
+  kit=$(dirname "$(rt doc)")
+  for name in std $(sed -n "s/^$crate staticlib: //p" "$copy/crates.txt"); do
+    if [ -d "$copy/crates/$name" ]; then
+      libraries+=(--extern "$name=$copy/crates/$name/out/rlib/$name.rlib" -L "dependency=$copy/crates/$name/out/rlib")
+    else
+      libraries+=(--extern "$name=$kit/rlibs/$name.rlib")
+    fi
+  done
+  libraries+=(-L "dependency=$kit/rlibs" --antt-project "$kit/rattle/logic/antt-project.json" --logic-built "$kit/logic_built")
+  log=$(mktemp)
+  if ! (cd "$copy/crates/$crate" && "$kit/bin/rattle" build --crate-name "$crate" --crate-type staticlib src/lib.rt "${libraries[@]}" \
+    --toolchain "$toolchain" --backend llvm --jobs 2 -o "$to") >"$log" 2>&1; then
+    cat "$log" >&2
+    rm -f "$log"
+    fail "$crate could not be built"
+  fi
+  rm -f "$log"
+}
+
+# the same of the library for C, linked into a folder
+build_gated_library_in() {
+  build_gated "$1" awari_c "$(dirname "$(rt doc)")/toolchain" "$2/libawari_c.a"
+  link_library "$2/libawari_c.a" "$2"
+}
+
 # what links the shared library
 linker() { "${CC:-cc}" -Wl,--version 2>/dev/null | head -n 1; }
 
