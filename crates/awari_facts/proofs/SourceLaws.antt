@@ -1,5 +1,5 @@
 -- What is said of levels in memory, or by files.
-use Rattle.std.proofs.Common.{◌≡◌, ℕ, List, slice_get, sum, Option, Some, None, refl, sym, ap, subst, ◌∙◌, arith}
+use Rattle.std.proofs.Common.{get_or, ◌≡◌, ℕ, List, slice_get, sum, Option, Some, None, ℤ, refl, sym, ap, subst, ◌∙◌, arith}
 use Rattle.std.proofs.lemmas.List.{length-take-le}
 use Rattle.std.specs.Prelude.{IsSomeAnd}
 use Rattle.std.proofs.lemmas.Option.{get_or_from_slice_get}
@@ -9,7 +9,7 @@ use Rattle.awari_places.specs.Places.{AreFormed}
 use Rattle.awari_places.specs.Runs.{IsEntryAt}
 use Rattle.awari_rank.specs.Rank.{rank_of, size_of}
 use Rattle.awari_table.proofs.ShelfLemmas.{entry_of-read}
-use Rattle.awari_table.specs.Images.{entry_of, no_image}
+use Rattle.awari_table.specs.Images.{entry_of, no_entry, no_image}
 use Rattle.awari_table.specs.Shelves.{IsShelf}
 use Rattle.awari_table.specs.declared.images.Entry.{Entry}
 use Rattle.awari_table.specs.declared.images.Image.{Image}
@@ -37,6 +37,13 @@ entry_there images board stones rank e there same ranked =
     let here : IsEntryAt images (sum board) (rank_of board) e = subst (λ (n : ℕ). IsEntryAt images n (rank_of board) e) same (subst (λ (k : ℕ). IsEntryAt images stones k e) ranked there) in
     let (image, found, read) = image_of (slice_get images (sum board)) (λ image. slice_get image.entries (rank_of board) ≡ Some e) here in
     entry_of-read images board image e found read
+
+-- and so is its value
+pub value_there : (images : List Image) (board : List ℕ) (stones rank : ℕ) (v : ℤ) → v ≡ (get_or (get_or images stones no_image).entries rank no_entry).value → stones ≡ sum board → rank ≡ rank_of board
+    → v ≡ (entry_of images board).value
+unfolding entry_of
+value_there images board stones rank v there same ranked =
+    there ∙ ap (λ n. (get_or (get_or images n no_image).entries rank no_entry).value) same ∙ ap (λ k. (get_or (get_or images (sum board) no_image).entries k no_entry).value) ranked
 
 -- the levels of a shelf have their numbers and their boards
 pub shelf_formed : (images : List Image) → IsShelf images → AreFormed images

@@ -1,12 +1,15 @@
 //! What is known of a board by the boards that its moves leave, and by the board turned.
 
-ghost use Rattle.std.specs.Prelude.{◌≡◌, ◌<◌, ◌-ℤ◌, int_lt, length, neg_ℤ, pos, sum};
+ghost use Rattle.std.specs.Prelude.{◌≡◌, ◌<◌, ◌-ℤ◌, ℕ, List, IfSome, IsNone, int_lt, length, neg_ℤ, pos, sum};
+ghost use Rattle.awari_board.specs.Rules.{IsLegal};
+ghost use Rattle.awari_rank.specs.Rank.{size_of};
 ghost use Rattle.awari_facts.specs.Facts.{gained_by, gains, gains_in, greedier, greediest, lost_by, moves_gaining};
+ghost use Rattle.awari_facts.specs.Left.{IsLeft};
 ghost use Rattle.awari_facts.specs.Sources.{images_of};
 
-use crate::sources::{Levels, value_on};
+use crate::sources::{Levels, value_at};
 use awari_board::SIDE;
-use awari_packed::{PackedBoard, PackedMove};
+use awari_packed::PackedBoard;
 
 /// What a move captures and gains.
 #[derive(Clone, Copy, Debug, PartialEq, Eq)]
@@ -20,42 +23,77 @@ pub struct Gained {
 /// What the move from each of the mover's pits captures and gains, where it is legal.
 pub type Gains = [Option<Gained>; SIDE as usize];
 
-/// What a move captures and gains that leaves a board of this value.
-fn gained_with(moved: &PackedMove, value: i8) -> Gained
-    ensures captured { result.captured ≡ moved.now.captured }
-    ensures value { result.value ≡ pos moved.now.captured -ℤ value }
-{
-    Gained {
-        captured: moved.captured,
-        value: i16::from(moved.captured) - i16::from(value),
-    }
+/// What a move captures, and where the board that it leaves stands.
+#[derive(Clone, Copy)]
+struct Left {
+    captured: u8,
+    stones: u8,
+    rank: u32,
 }
 
-/// What the move from a pit captures and gains, if it is legal. Condition: the board's level is there.
-fn gained_by(levels: Levels<'_>, board: &PackedBoard, pit: u8) -> Option<Gained>
-    requires { sum board.now < length (images_of levels) }
-    ensures { result ≡ gained_by (images_of levels.entry) board.now pit }
+/// What the move from a pit leaves, if it is legal.
+fn left_by(board: &PackedBoard, pit: u8) -> Option<Left>
+    ensures some { IfSome result (IsLeft board.now pit) }
+    ensures none { IsNone result → IsLegal board.now pit → ⊥ }
 {
     if !board.legal(pit) {
         return None;
     }
     let moved = board.play(pit);
-    let value = value_on(levels, &moved.board);
-    Some(gained_with(&moved, value))
+    Some(Left {
+        captured: moved.captured,
+        stones: moved.board.stones(),
+        rank: moved.board.rank(),
+    })
+}
+
+/// What a move captures and gains that leaves a board of this value.
+fn gain_of(captured: u8, value: i8) -> Gained
+    ensures captured { result.captured ≡ captured }
+    ensures value { result.value ≡ pos captured -ℤ value }
+{
+    Gained {
+        captured,
+        value: i16::from(captured) - i16::from(value),
+    }
+}
+
+/// What the move from a pit captures and gains that leaves this, if it is legal. Condition: the board's level is
+/// there.
+fn gained_with(levels: Levels<'_>, left: Option<Left>) -> Option<Gained>
+    requires { IfSome left (λ left. left.stones < length (images_of levels) × left.rank < size_of left.stones) }
+    ensures { (board : List ℕ) (pit : ℕ) → IfSome left (IsLeft board pit) → (IsNone left → IsLegal board pit → ⊥) → result ≡ gained_by (images_of levels.entry) board pit }
+{
+    let Some(left) = left else {
+        return None;
+    };
+    let value = value_at(levels, left.stones, left.rank);
+    Some(gain_of(left.captured, value))
 }
 
 /// What each move of the board captures and gains. Condition: the board's level is there.
+///
+/// The values lie far apart in memory. All places are found before any is looked at, so that the look-ups wait
+/// together.
 pub fn gains_of(levels: Levels<'_>, board: &PackedBoard) -> Gains
     requires { sum board.now < length (images_of levels) }
     ensures { result ≡ gains_in (images_of levels.entry) board.now }
 {
+    let left = [
+        left_by(board, 0),
+        left_by(board, 1),
+        left_by(board, 2),
+        left_by(board, 3),
+        left_by(board, 4),
+        left_by(board, 5),
+    ];
     [
-        gained_by(levels, board, 0),
-        gained_by(levels, board, 1),
-        gained_by(levels, board, 2),
-        gained_by(levels, board, 3),
-        gained_by(levels, board, 4),
-        gained_by(levels, board, 5),
+        gained_with(levels, left[0]),
+        gained_with(levels, left[1]),
+        gained_with(levels, left[2]),
+        gained_with(levels, left[3]),
+        gained_with(levels, left[4]),
+        gained_with(levels, left[5]),
     ]
 }
 

@@ -1,12 +1,12 @@
 //! Where the entries of a level are read: levels in memory, or files where they lie.
 
-ghost use Rattle.std.specs.Prelude.{◌≡◌, ◌<◌, ◌≤◌, ℕ, List, Option, Some, IfErr, IfOk, length, sum};
+ghost use Rattle.std.specs.Prelude.{◌≡◌, ◌<◌, ◌≤◌, ℕ, List, Option, Some, IfErr, IfOk, length, slice_index_or, sum};
 ghost use Rattle.awari_folder.specs.FolderFault.{Names};
 ghost use Rattle.awari_folder.specs.State.{Unchanged};
 ghost use Rattle.awari_places.specs.Faults.{IsLimitFault, IsRefusedAt};
 ghost use Rattle.awari_places.specs.Runs.{IsEntryAt, IsRunOf};
 ghost use Rattle.awari_rank.specs.Rank.{size_of};
-ghost use Rattle.awari_table.specs.Images.{entry_of};
+ghost use Rattle.awari_table.specs.Images.{entry_of, no_entry, no_image};
 ghost use Rattle.awari_table.specs.declared.TheConstants.{HIGHEST_LEVEL};
 ghost use Rattle.awari_table.specs.declared.images.Image.{Image};
 ghost use Rattle.awari_places.specs.Places.{AreFormed, IsLevelOf};
@@ -60,16 +60,37 @@ fn shelf_entry(shelf: &Shelf, level: u8, rank: u32) -> Entry
     shelf.level(level).entry_at(rank)
 }
 
-/// The value of a board. Condition: its level is there.
+/// The value of a rank of a level. Conditions: the level is there, and has that many boards.
 #[inline(always)]
+pub fn value_at(levels: Levels<'_>, level: u8, rank: u32) -> i8
+    requires level { level < length (images_of levels) }
+    requires rank { rank < size_of level }
+    ensures { result ≡ (slice_index_or (slice_index_or (images_of levels.entry) level no_image).entries rank no_entry).value }
+{
+    match levels {
+        Levels::Right(shelf) => shelf_value(shelf, level, rank),
+        Levels::Said(said) => said.value_at(level, rank),
+    }
+}
+
+/// The same of a verified level.
+#[inline(always)]
+fn shelf_value(shelf: &Shelf, level: u8, rank: u32) -> i8
+    requires level { level < length shelf.now }
+    requires rank { rank < size_of level }
+    ensures { result ≡ (slice_index_or (slice_index_or shelf.now level no_image).entries rank no_entry).value }
+{
+    // For the proof: the levels are a shelf.
+    let _levels = shelf.levels();
+    shelf.level(level).value_at(rank)
+}
+
+/// The value of a board. Condition: its level is there.
 pub fn value_on(levels: Levels<'_>, board: &PackedBoard) -> i8
     requires { sum board.now < length (images_of levels) }
     ensures { result ≡ (entry_of (images_of levels.entry) board.now).value }
 {
-    match levels {
-        Levels::Right(shelf) => shelf.value_below(board, board.stones()),
-        Levels::Said(said) => said.value_of(board),
-    }
+    value_at(levels, board.stones(), board.rank())
 }
 
 /// The limit of a level. Condition: the level is there.

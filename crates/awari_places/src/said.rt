@@ -1,11 +1,11 @@
 //! Levels in memory, as files say them.
 
-ghost use Rattle.std.specs.Prelude.{◌≡◌, ◌⊎◌, ◌<◌, ◌≤◌, ◌+◌, ℕ, List, Option, IfErr, IfOk, IsSomeAnd, Some, length, slice_get, slice_index_or, sum, take};
+ghost use Rattle.std.specs.Prelude.{◌≡◌, ◌⊎◌, ◌<◌, ◌≤◌, ◌+◌, ℕ, List, Option, IfErr, IfOk, IsSomeAnd, Some, length, slice_get, slice_index_or, take};
 ghost use Rattle.awari_folder.specs.Contents.{AreNames};
 ghost use Rattle.awari_folder.specs.FolderFault.{Names};
 ghost use Rattle.awari_folder.specs.State.{Unchanged};
 ghost use Rattle.awari_rank.specs.Rank.{size_of};
-ghost use Rattle.awari_table.specs.Images.{entry_of, no_image};
+ghost use Rattle.awari_table.specs.Images.{no_entry, no_image};
 ghost use Rattle.awari_table.specs.declared.TheConstants.{HIGHEST_LEVEL};
 ghost use Rattle.awari_table.specs.declared.images.Image.{Image as AnImage};
 ghost use Rattle.awari_places.specs.Faults.{IsLimitFault, IsUnread};
@@ -16,7 +16,6 @@ use crate::kept::Run;
 use crate::opening::limit_in_header;
 use crate::runs::entry_in_run;
 use awari_folder::{Folder, FolderFault};
-use awari_packed::PackedBoard;
 use awari_rank::size;
 use awari_table::{Entries, Entry, Image};
 use std::alloc::Global;
@@ -68,14 +67,15 @@ impl Said {
         self.levels[level as usize].entries.at(rank as usize)
     }
 
-    /// The value of a board. Condition: its level is there. It takes no memory.
+    /// The value of a rank of a level. Conditions: the level is there, and has that many boards. It takes no
+    /// memory.
     #[inline(always)]
-    pub fn value_of(&self, board: &PackedBoard) -> i8
-        requires { sum board.now < length self.now }
-        ensures { result ≡ (entry_of self.now board.now).value }
+    pub fn value_at(&self, level: u8, rank: u32) -> i8
+        requires level { level < length self.now }
+        requires rank { rank < size_of level }
+        ensures { result ≡ (slice_index_or (slice_index_or self.now level no_image).entries rank no_entry).value }
     {
-        let level = &self.levels[board.stones() as usize];
-        level.entries.value(board.rank() as usize)
+        self.levels[level as usize].entries.value(rank as usize)
     }
 }
 
