@@ -144,3 +144,17 @@ pub best_line-value : (levels : List Image) (limit : ℕ) (board moves : List �
 best_line-value levels limit board moves o shelf is low line within =
     let both = secured levels board shelf is low limit moves line.last o within line.play line.ends in
     same_number (entry_of levels board).value o (both.0 line.first_follows) (both.1 line.second_follows)
+
+-- a move leaves no more stones
+pub known_more : (levels : ℕ) (board moves : List ℕ) (seen later : Standing) (x : ℕ) → Shows seen board moves → Shows later board (moves ++ x ∷ []) → IsBoard seen.board → IsLegal seen.board x → sum seen.board < levels
+    → sum later.board < levels
+known_more levels board moves seen later x shows further whole legal low =
+    let kept = stones_kept seen.board x _ _ whole (move_of seen.board x legal) in
+    let left : sum later.board ≡ sum (next_board seen.board x) = ap sum (seen_after seen later board moves x shows further).0 in
+    omega (arith, low, kept, left)
+
+-- the first board of a play
+pub known_start : (levels : ℕ) (board : List ℕ) (seen : Standing) → Shows seen board [] → sum board < levels → sum seen.board < levels
+known_start levels board seen shows low =
+    let there : seen.board ≡ board = shows.shown.board ∙ ap (λ (s : Standing). s.board) shows.play in
+    subst (λ b. sum b < levels) (sym there) low

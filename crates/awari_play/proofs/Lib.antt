@@ -8,3 +8,4 @@ pub mod Alike
 pub mod Worthing
 pub mod HoldingOut
 pub mod PlyLaws
+pub mod Lasting

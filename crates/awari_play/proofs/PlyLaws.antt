@@ -1,9 +1,10 @@
 -- The plies of a play, one more at a time, and the boards that stand in it.
-use Rattle.std.proofs.Common.{◌≡◌, ℕ, zero, suc, ◌+◌, ◌-◌, ◌<◌, ◌≤◌, Bool, true, false, List, [], ◌∷◌, ◌++◌, length, sum, take, get_or, slice_get, ℤ, Option, Some, None, IfSome, refl, sym, ap, ◌∙◌, subst, arith, inl, inr}
+use Rattle.std.proofs.Common.{◌≡◌, ℕ, zero, suc, ◌+◌, ◌-◌, ◌<◌, ◌≤◌, Bool, true, false, List, [], ◌∷◌, ◌++◌, length, sum, take, get_or, slice_get, ℤ, Option, Some, None, IfSome, pos, Result, Ok, Err, refl, sym, ap, ◌∙◌, subst, arith, inl, inr}
 use Rattle.std.proofs.lemmas.Bool.{cases_lt}
 use Rattle.std.proofs.lemmas.List.{length-map, length-take-le, take_all, take_more}
 use Rattle.std.proofs.lemmas.Option.{slice_get-map, slice_get-get_or}
-use Rattle.std.specs.Prelude.{option_map}
+use Rattle.std.specs.Ordering.{int_eq}
+use Rattle.std.specs.Prelude.{IfOk, option_map}
 use Rattle.awari_board.specs.Rules.{IsBoard, IsLegal, captured, next_board}
 use Rattle.awari_game.specs.Plays.{Standing, start, after, IsPlay}
 use Rattle.awari_game.specs.Shown.{Shows}
@@ -14,7 +15,8 @@ use Rattle.awari_table.specs.declared.images.Image.{Image}
 use Rattle.awari_table.specs.declared.images.Entry.{Entry}
 use Rattle.awari_play.specs.declared.plies.Ply.{Ply}
 use Rattle.awari_play.specs.declared.plies.Repeat.{Repeat}
-use Rattle.awari_play.specs.Plies.{IsLineBy, IsRepeatIf, NoneRepeats, boards_in, plies_of, ply_of}
+use Rattle.awari_play.specs.declared.plies.LinePlies.{LinePlies}
+use Rattle.awari_play.specs.Plies.{AreLinePlies, IsLineBy, IsRepeatIf, NoneRepeats, boards_in, plies_of, ply_of}
 
 plies-more : (images : List Image) (n : ℕ) (from u : Standing) (xs : List ℕ) (x : ℕ) → IsPlay from xs u → plies_of images n from (xs ++ x ∷ []) ≡ plies_of images n from xs ++ ply_of images (n + length xs) u x ∷ []
 unfolding plies_of
@@ -31,6 +33,16 @@ legal_at from last u [] i d play lt so_far = absurd (omega (arith, lt))
 legal_at from last u (x ∷ xs) zero d play lt so_far = subst (λ (v : Standing). IsLegal v.board x) (sym so_far) play.0
 legal_at from last u (x ∷ xs) (suc i) d play lt so_far = legal_at (after from x) last u xs i d play.1 (omega (arith, lt)) so_far.1
 
+-- the next pit of a play is legal
+pub legal_next : (board moves : List ℕ) (i x : ℕ) (seen last : Standing) → IsPlay (start board) moves last → i < length moves → x ≡ get_or moves i x → Shows seen board (take i moves) → IsLegal seen.board x
+legal_next board moves i x seen last play lt is shows =
+    subst (IsLegal seen.board) (sym is) (subst (λ b. IsLegal b (get_or moves i x)) (sym shows.shown.board) (legal_at (start board) last shows.standing moves i x play lt shows.play))
+
+pub shows_more : (board moves : List ℕ) (i x : ℕ) (later : Standing) → i < length moves → x ≡ get_or moves i x → Shows later board (take i moves ++ x ∷ []) → Shows later board (take (i + 1) moves)
+shows_more board moves i x later lt is shows =
+    let more : take i moves ++ x ∷ [] ≡ take (i + 1) moves = ap (λ (z : ℕ). take i moves ++ z ∷ []) is ∙ sym (take_more moves i x lt) in
+    subst (Shows later board) more shows
+
 -- what is told of the first i plies
 pub record IsTold (images : List Image) (board moves : List ℕ) (i : ℕ) (seen : Standing) (plies : List Ply) : Type 0 where
   pub shows : Shows seen board (take i moves)
@@ -42,12 +54,6 @@ unfolding plies_of
 told-start images board moves seen low shows =
     let there : seen.board ≡ board = shows.shown.board ∙ ap (λ (s : Standing). s.board) shows.play in
     record { shows = shows; known = subst (λ b. sum b < length images) (sym there) low; each = refl }
-
-pub told-legal : (images : List Image) (board moves : List ℕ) (i x : ℕ) (seen last : Standing) (plies : List Ply) → IsPlay (start board) moves last → i < length moves → x ≡ get_or moves i x
-    → IsTold images board moves i seen plies → IsLegal seen.board x
-told-legal images board moves i x seen last plies play lt is told =
-    subst (IsLegal seen.board) (sym is)
-    (subst (λ b. IsLegal b (get_or moves i x)) (sym told.shows.shown.board) (legal_at (start board) last told.shows.standing moves i x play lt told.shows.play))
 
 pub told-more : (images : List Image) (board moves : List ℕ) (i x : ℕ) (seen later : Standing) (plies : List Ply) (ply : Ply) → i < length moves → x ≡ get_or moves i x
     → (told : IsTold images board moves i seen plies) → ply ≡ ply_of images (i + 1) told.shows.standing x → Shows later board (take i moves ++ x ∷ []) → IsBoard seen.board → IsLegal seen.board x
@@ -151,3 +157,11 @@ pub repeat_within : (even : Bool) (board : List ℕ) (plies : List Ply) (repeat 
 repeat_within even board plies None h = tt
 repeat_within true board plies (Some r) h = let len = boards_len board plies in omega (arith, h.within, len)
 repeat_within false board plies (Some r) h = absurd (cc h)
+
+-- the plies of a line, if they could be told
+pub told_line : {E : Type 0} (longest : Bool) (images : List Image) (board moves : List ℕ) (r : Result LinePlies E) → IsLineBy longest images board moves
+    → IfOk r (λ found. found.plies.items ≡ plies_of images 1 (start board) moves)
+    → IfOk r (λ found. IsRepeatIf (int_eq (entry_of images board).value (pos 0)) (boards_in board found.plies.items) found.repeat)
+    → IfOk r (λ found. AreLinePlies longest images board found.plies.items found.repeat)
+told_line longest images board moves (Err fault) line each repeats = tt
+told_line longest images board moves (Ok found) line each repeats = record { moves = moves; line = line; each = each; repeats = repeats }

@@ -1,11 +1,13 @@
 -- Worths that go with a list of pits, one with each.
-use Rattle.std.proofs.Common.{◌≡◌, ℕ, ◌+◌, ◌<◌, [], ◌∷◌, ◌++◌, List, All, ◌∙◌, ap, arith, get_or, length, map, refl, subst, suc, sym, take, zero}
+use Rattle.std.proofs.Common.{◌≡◌, ℕ, ◌+◌, ◌<◌, [], ◌∷◌, ◌++◌, Bool, true, false, Some, List, All, ◌∙◌, ap, arith, get_or, length, map, refl, subst, suc, sym, take, zero}
 use Rattle.std.proofs.lemmas.List.{map_push, take_more}
 use Rattle.std.proofs.lemmas.Slice.Zip.{all_zipped_more}
 use Rattle.std.specs.List.{AllZip}
 use Rattle.awari_table.specs.Certificate.{Table}
 use Rattle.awari_play.specs.MoveWorth.{IsMoveWorth, IsWorthOf, pit_of}
-use Rattle.awari_play.specs.Worths.{worth_in}
+use Rattle.awari_play.specs.Worths.{AreReplies, IsReplied, worth_in}
+use Rattle.awari_play.specs.declared.replies.Replies.{Replies}
+use Rattle.awari_table.specs.declared.images.Image.{Image}
 use Rattle.awari_play.specs.declared.weighing.WeighedMove.{WeighedMove}
 use Rattle.awari_play.specs.declared.worths.MoveWorth.{MoveWorth}
 
@@ -34,3 +36,8 @@ pub weighed-more : (moves : List WeighedMove) (m : WeighedMove) (ws : List MoveW
     → i < length ws → get_or ws i w ≡ w → m.worth ≡ w → map worth_in moves ≡ take i ws → after ≡ moves ++ m ∷ [] → map worth_in after ≡ take (i + 1) ws
 weighed-more moves m ws i w after inside own is before more =
     ap (map worth_in) more ∙ map_push worth_in moves m ∙ ap (λ l. l ++ m.worth ∷ []) before ∙ ap (λ x. take i ws ++ x ∷ []) (is ∙ sym own) ∙ sym (take_more ws i w inside)
+
+-- replies that were asked for
+pub replied : (asked : Bool) (images : List Image) (board : List ℕ) (m : WeighedMove) (replies : Replies) → asked ≡ true → m.replies ≡ Some replies → AreReplies images board m.worth.pit replies → IsReplied asked images board m
+replied true images board m replies asks some are = (replies, some, are)
+replied false images board m replies asks some are = absurd cc

@@ -9,3 +9,6 @@ pub mod Lowering
 pub mod MoveWorth
 pub mod Worths
 pub mod Plies
+pub mod Saying
+pub mod OnShelf
+pub mod Unplayed

@@ -25,6 +25,7 @@
 mod laws;
 mod lines;
 mod longest;
+mod lookups;
 mod lowering;
 mod plans;
 mod plies;
@@ -33,11 +34,12 @@ mod weighing;
 mod worths;
 
 pub use laws::{lowest_levels_are_one, lowest_plans_stay};
-pub use lines::{Line, LineFault, best_line, play_pit};
+pub use lines::{Line, LineFault, best_line, best_line_by, play_pit};
 pub use longest::longest_line;
+pub use lookups::{Table, Unplayed};
 pub use lowering::least;
 pub use plans::planned_image;
-pub use plies::{LinePlies, Ply, Repeat, line_plies, repeat_of};
-pub use replies::{Replies, count_keeping, replies_to};
-pub use weighing::{Weighed, WeighedMove, weigh};
-pub use worths::{MoveWorth, move_worths, worth_by, worth_of};
+pub use plies::{LinePlies, Ply, Repeat, line_plies, told_plies};
+pub use replies::Replies;
+pub use weighing::{Weighed, WeighedMove, weigh, weigh_by};
+pub use worths::{MoveWorth, move_worths, reached, worth_of};

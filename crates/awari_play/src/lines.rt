@@ -2,16 +2,19 @@
 
 ghost use Rattle.std.specs.Prelude.{◌≡◌, ℕ, ◌<◌, ◌≤◌, ◌+◌, ◌↔◌, [], ◌∷◌, ◌++◌, List, IfOk, IfErr, Err, Some, length, sum, take};
 ghost use Rattle.awari_board.specs.Rules.{IsBoard, IsLegal};
+ghost use Rattle.awari_game.specs.Plays.{IsPlay, Standing, start};
 ghost use Rattle.awari_game.specs.Shown.{Shows};
 ghost use Rattle.awari_table.specs.Images.{entry_of, greatest_limit, table_of};
-ghost use Rattle.awari_table.specs.Shelves.{IsShelf};
+ghost use Rattle.awari_table.specs.declared.images.Image.{Image};
 ghost use Rattle.awari_play.specs.BestLine.{IsBestLine};
 ghost use Rattle.awari_play.specs.LineFault.{IsDue};
+ghost use Rattle.awari_play.specs.Unplayed.{IsUnplayed};
 
+use crate::lookups::{Table, Unplayed};
 use awari_board::Board;
 use awari_game::Game;
-use awari_table::{Entry, Shelf};
-use std::alloc::{AllocError, Global};
+use awari_table::Shelf;
+use std::alloc::Global;
 use std::fmt;
 use thiserror::Error;
 
@@ -79,16 +82,31 @@ pub fn best_line(alloc: Global, shelf: &Shelf, board: Board, limit: u32) -> Resu
     if board.stones() >= levels {
         return Err(LineFault::NotYet { levels });
     }
-    play_out(alloc, shelf, board, limit).map_err(|_| LineFault::Memory)
+    let mut table = shelf;
+    match best_line_by(alloc, &mut table, board, limit) {
+        Ok(line) => Ok(line),
+        Err(Unplayed::Memory) => Err(LineFault::Memory),
+        Err(Unplayed::Refused { .. }) => unreachable!(),
+        Err(Unplayed::Illegal { .. }) => unreachable!(),
+    }
 }
 
-/// Plays the plans of both sides from a board whose level is on the shelf, up to the first outcome.
-fn play_out(alloc: Global, shelf: &Shelf, board: Board, limit: u32) -> Result<Line, AllocError>
-    requires shelf { IsShelf shelf.now }
-    requires board { IsBoard board }
-    requires known { sum board < length shelf.now }
-    ensures line { IfOk result (λ line. IsBestLine (table_of shelf.now) limit board line.moves.items line.outcome) }
-    ensures value { IfOk result (λ line. greatest_limit (take (sum board + 1) shelf.now) ≤ limit → line.outcome ≡ (entry_of shelf.now board).value) }
+/// The play from the board in which both sides follow the plans that a table says, up to the first outcome
+/// by this limit. Condition: the board's level is there. It always returns, whatever the table says.
+///
+/// It is refused if a look-up is, or a plan is not legal, or memory runs out. It takes memory for the
+/// moves, a byte each.
+pub fn best_line_by<T: Table>(
+    alloc: Global,
+    table: &mut T,
+    board: Board,
+    limit: u32,
+) -> Result<Line, Unplayed<T::Fault>>
+    requires { sum board < T.saying.levels table.old }
+    ensures line { (images : List Image) → T.saying.says table.old images → IfOk result (λ line. IsBestLine (table_of images) limit board line.moves.items line.outcome) }
+    ensures play { IfOk result (λ line. (last : Standing) × IsPlay (start board) line.moves.items last) }
+    ensures keeps { T.saying.keeps table.old table.new }
+    ensures fault { IfErr result (IsUnplayed T.saying table.old) }
 {
     let mut game = Game::start(board);
     let mut moves = Vec::new(alloc);
@@ -96,9 +114,33 @@ fn play_out(alloc: Global, shelf: &Shelf, board: Board, limit: u32) -> Result<Li
         if let Some(outcome) = game.outcome(limit) {
             return Ok(Line { moves, outcome });
         }
-        let pit = plan(shelf, &game.board());
+        let pit = plan_by(table, &game.board())?;
         play_pit(&mut game, pit);
-        moves.push(pit)?;
+        match moves.push(pit) {
+            Ok(()) => {}
+            Err(_) => return Err(Unplayed::Memory),
+        }
+    }
+}
+
+/// The plan that a table says of a board, if it is legal. Conditions: the board's level is there, and some pit
+/// is legal on the board.
+fn plan_by<T: Table>(table: &mut T, board: &Board) -> Result<u8, Unplayed<T::Fault>>
+    requires board { IsBoard board.now }
+    requires known { sum board.now < T.saying.levels table.old }
+    requires some { (pit : ℕ) × IsLegal board.now pit }
+    ensures plan { (images : List Image) → T.saying.says table.old images → IfOk result (λ pit. (table_of images).plan board.now ≡ Some pit) }
+    ensures legal { IfOk result (IsLegal board.now) }
+    ensures keeps { T.saying.keeps table.old table.new }
+    ensures fault { IfErr result (IsUnplayed T.saying table.old) }
+{
+    let entry = match table.entry(board) {
+        Ok(entry) => entry,
+        Err(fault) => return Err(Unplayed::Refused { fault }),
+    };
+    match entry.plan {
+        Some(pit) if board.legal(pit) => Ok(pit),
+        _ => Err(Unplayed::Illegal { board: *board }),
     }
 }
 
@@ -110,22 +152,4 @@ pub fn play_pit(game: &mut Game, pit: u8)
     let Ok(()) = game.step(pit) else {
         unreachable!()
     };
-}
-
-/// The plan of a board on which some pit is legal.
-pub(crate) fn plan(shelf: &Shelf, board: &Board) -> u8
-    requires shelf { IsShelf shelf.now }
-    requires board { IsBoard board.now }
-    requires known { sum board.now < length shelf.now }
-    requires open { (pit : ℕ) × IsLegal board.now pit }
-    ensures plan { (table_of shelf.now).plan board.now ≡ Some result }
-    ensures legal { IsLegal board.now result }
-{
-    let Ok(entry) = shelf.entry(board) else {
-        unreachable!()
-    };
-    match entry.plan {
-        Some(pit) => pit,
-        None => unreachable!(),
-    }
 }

@@ -1,7 +1,7 @@
 //! Play in which the favoured side follows its plans, and the other side holds out as long as it can.
 
-ghost use Rattle.std.specs.Prelude.{◌≡◌, ◌<◌, ◌≤◌, ◌↔◌, IsTrue, IfOk, IfErr, Err, length, sum};
-ghost use Rattle.awari_board.specs.Rules.{IsBoard};
+ghost use Rattle.std.specs.Prelude.{◌≡◌, ◌<◌, ◌≤◌, ◌↔◌, ℕ, Some, IsTrue, IfOk, IfErr, Err, length, sum};
+ghost use Rattle.awari_board.specs.Rules.{IsBoard, IsLegal};
 ghost use Rattle.awari_table.specs.Certificate.{MovesIn, MovesNoLater};
 ghost use Rattle.awari_table.specs.Images.{entry_of, table_of};
 ghost use Rattle.awari_table.specs.Shelves.{IsShelf};
@@ -9,7 +9,7 @@ ghost use Rattle.awari_play.specs.LineFault.{IsDue};
 ghost use Rattle.awari_play.specs.LongestLine.{HoldsLongest, IsDuePit, IsLongestLine};
 ghost use Rattle.awari_play.specs.Holding.{TakesPlies};
 
-use crate::lines::{LineFault, plan, play_pit};
+use crate::lines::{LineFault, play_pit};
 use crate::worths::reached;
 use awari_board::{Board, SIDE};
 use awari_game::Game;
@@ -93,8 +93,30 @@ fn takes(shelf: &Shelf, board: &Board, pit: u8, plies: u32) -> bool
     requires { sum board.now < length shelf.now }
     ensures { IsTrue result ↔ TakesPlies (table_of shelf.now) board.now pit plies }
 {
-    match reached(shelf, board, pit) {
-        Some(reached) => reached.plies == u64::from(plies),
-        None => false,
+    if !board.legal(pit) {
+        return false;
+    }
+    let mut table = shelf;
+    match reached(&mut table, board, pit) {
+        Ok(reached) => reached.plies == u64::from(plies),
+        Err(_) => unreachable!(),
+    }
+}
+
+/// The plan of a board on which some pit is legal.
+fn plan(shelf: &Shelf, board: &Board) -> u8
+    requires shelf { IsShelf shelf.now }
+    requires board { IsBoard board.now }
+    requires known { sum board.now < length shelf.now }
+    requires open { (pit : ℕ) × IsLegal board.now pit }
+    ensures plan { (table_of shelf.now).plan board.now ≡ Some result }
+    ensures legal { IsLegal board.now result }
+{
+    let Ok(entry) = shelf.entry(board) else {
+        unreachable!()
+    };
+    match entry.plan {
+        Some(pit) => pit,
+        None => unreachable!(),
     }
 }

@@ -7,14 +7,18 @@ ghost use Rattle.awari_game.specs.Plays.{IsPlay, Standing, start};
 ghost use Rattle.awari_game.specs.Shown.{Shows};
 ghost use Rattle.awari_table.specs.Images.{entry_of};
 ghost use Rattle.awari_play.specs.LineFault.{IsDue};
+ghost use Rattle.awari_table.specs.declared.images.Image.{Image};
 ghost use Rattle.awari_play.specs.Plies.{AreLinePlies, IsLineBy, IsRepeat, IsRepeatIf, boards_in, plies_of, ply_of};
+ghost use Rattle.awari_play.specs.Saying.{IsRefusedIn};
+ghost use Rattle.awari_play.specs.Unplayed.{IsUntold};
 
 use crate::lines::{LineFault, best_line};
 use crate::longest::longest_line;
+use crate::lookups::{Table, Unplayed};
 use awari_board::Board;
 use awari_game::Game;
 use awari_table::{Entry, Shelf};
-use std::alloc::{AllocError, Global};
+use std::alloc::Global;
 
 /// A ply, and what stands then.
 #[derive(Clone, Copy, Debug, PartialEq, Eq)]
@@ -68,7 +72,13 @@ pub fn line_plies(
     ensures fault { IfErr result (IsDue (length shelf.now) (sum board)) }
 {
     let moves = moves_of(alloc, shelf, board, longest)?;
-    told_plies(alloc, shelf, board, moves.as_slice()).map_err(|_| LineFault::Memory)
+    let mut table = shelf;
+    match told_plies(alloc, &mut table, board, moves.as_slice()) {
+        Ok(plies) => Ok(plies),
+        Err(Unplayed::Memory) => Err(LineFault::Memory),
+        Err(Unplayed::Refused { .. }) => unreachable!(),
+        Err(Unplayed::Illegal { .. }) => unreachable!(),
+    }
 }
 
 /// The pits of the line of play from a board, by the plans of both sides or with one that holds out.
@@ -85,72 +95,90 @@ fn moves_of(alloc: Global, shelf: &Shelf, board: Board, longest: bool) -> Result
     Ok(line.moves)
 }
 
-/// The plies of a play from a board whose level is on the shelf, and where it comes back to a board if
-/// the value is 0.
-fn told_plies(
+/// The plies of a play from a board by a table, and where it comes back to a board if the value is 0.
+/// Conditions: the board's level is there, and the moves are a play. It takes memory for the plies.
+pub fn told_plies<T: Table>(
     alloc: Global,
-    shelf: &Shelf,
+    table: &mut T,
     board: Board,
     moves: &[u8],
-) -> Result<LinePlies, AllocError>
-    requires known { sum board < length shelf.now }
+) -> Result<LinePlies, Unplayed<T::Fault>>
+    requires known { sum board < T.saying.levels table.old }
     requires play { (last : Standing) × IsPlay (start board) moves.now last }
-    ensures each { IfOk result (λ found. found.plies.items ≡ plies_of shelf.now 1 (start board) moves.now) }
-    ensures repeats { IfOk result (λ found. IsRepeatIf (int_eq (entry_of shelf.now board).value (pos 0)) (boards_in board found.plies.items) found.repeat) }
+    ensures each { (images : List Image) → T.saying.says table.old images → IfOk result (λ found. found.plies.items ≡ plies_of images 1 (start board) moves.now) }
+    ensures repeats { (images : List Image) → T.saying.says table.old images → IfOk result (λ found. IsRepeatIf (int_eq (entry_of images board).value (pos 0)) (boards_in board found.plies.items) found.repeat) }
+    ensures within { IfOk result (λ found. IfSome found.repeat (λ r. r.again ≤ length found.plies.items)) }
+    ensures keeps { T.saying.keeps table.old table.new }
+    ensures fault { IfErr result (IsUntold T.saying table.old) }
 {
-    let Ok(entry) = shelf.entry(&board) else {
-        unreachable!()
+    let entry = match table.entry(&board) {
+        Ok(entry) => entry,
+        Err(fault) => return Err(Unplayed::Refused { fault }),
     };
-    let plies = plies_of(alloc, shelf, board, moves)?;
+    let plies = plies_of(alloc, table, board, moves)?;
     let repeat = repeat_of(entry.value, &board, plies.as_slice());
     Ok(LinePlies { plies, repeat })
 }
 
-/// Plays a legal pit, and says what stands then. The board's level is on the shelf.
-fn play_ply(shelf: &Shelf, game: &mut Game, number: usize, pit: u8) -> Ply
-    requires known { sum game.old.board < length shelf.now }
+/// The plies of a play from a board by a table.
+fn plies_of<T: Table>(
+    alloc: Global,
+    table: &mut T,
+    board: Board,
+    moves: &[u8],
+) -> Result<Vec<Ply>, Unplayed<T::Fault>>
+    requires known { sum board < T.saying.levels table.old }
+    requires play { (last : Standing) × IsPlay (start board) moves.now last }
+    ensures plies { (images : List Image) → T.saying.says table.old images → IfOk result (λ plies. plies.items ≡ plies_of images 1 (start board) moves.now) }
+    ensures keeps { T.saying.keeps table.old table.new }
+    ensures fault { IfErr result (IsUntold T.saying table.old) }
+{
+    let mut game = Game::start(board);
+    let mut plies = Vec::new(alloc);
+    for index in 0..moves.len() {
+        let ply = match play_ply(table, &mut game, index + 1, moves[index]) {
+            Ok(ply) => ply,
+            Err(fault) => return Err(Unplayed::Refused { fault }),
+        };
+        match plies.push(ply) {
+            Ok(()) => {}
+            Err(_) => return Err(Unplayed::Memory),
+        }
+    }
+    Ok(plies)
+}
+
+/// Plays a legal pit, and says what stands then. Condition: the board's level is there.
+fn play_ply<T: Table>(
+    table: &mut T,
+    game: &mut Game,
+    number: usize,
+    pit: u8,
+) -> Result<Ply, T::Fault>
+    requires known { sum game.old.board < T.saying.levels table.old }
     requires legal { IsLegal game.old.board pit }
     ensures board { IsBoard game.old.board }
-    ensures ply { (board pits : List ℕ) (shows : Shows game.old board pits) → result ≡ ply_of shelf.now number shows.standing pit }
-    ensures played { (board pits : List ℕ) → Shows game.old board pits → Shows game.new board (pits ++ pit ∷ []) }
+    ensures ply { (images : List Image) → T.saying.says table.old images
+        → IfOk result (λ ply. (board pits : List ℕ) (shows : Shows game.old board pits) → ply ≡ ply_of images number shows.standing pit) }
+    ensures played { IfOk result (λ _. (board pits : List ℕ) → Shows game.old board pits → Shows game.new board (pits ++ pit ∷ [])) }
+    ensures keeps { T.saying.keeps table.old table.new }
+    ensures fault { IfErr result (IsRefusedIn T.saying table.old) }
 {
     let Ok(moved) = game.board().play(pit) else {
         unreachable!()
     };
-    let Ok(entry) = shelf.entry(&moved.board) else {
-        unreachable!()
-    };
+    let entry = table.entry(&moved.board)?;
     let Ok(()) = game.step(pit) else {
         unreachable!()
     };
-    Ply {
+    Ok(Ply {
         number,
         pit,
         captured: moved.captured,
         running: game.running(),
         board: moved.board,
         entry,
-    }
-}
-
-/// The plies of a play from a board whose level is on the shelf.
-fn plies_of(
-    alloc: Global,
-    shelf: &Shelf,
-    board: Board,
-    moves: &[u8],
-) -> Result<Vec<Ply>, AllocError>
-    requires known { sum board < length shelf.now }
-    requires play { (last : Standing) × IsPlay (start board) moves.now last }
-    ensures { IfOk result (λ plies. plies.items ≡ plies_of shelf.now 1 (start board) moves.now) }
-{
-    let mut game = Game::start(board);
-    let mut plies = Vec::new(alloc);
-    for index in 0..moves.len() {
-        let ply = play_ply(shelf, &mut game, index + 1, moves[index]);
-        plies.push(ply)?;
-    }
-    Ok(plies)
+    })
 }
 
 /// The board that stands after this many of the plies from a board.
@@ -195,7 +223,7 @@ fn first_repeat(board: &Board, plies: &[Ply]) -> Option<Repeat>
 
 /// Where the plies from a board first come back to a board that stood before; but none is looked for
 /// if the value is not 0. It takes no memory.
-pub fn repeat_of(value: i8, board: &Board, plies: &[Ply]) -> Option<Repeat>
+fn repeat_of(value: i8, board: &Board, plies: &[Ply]) -> Option<Repeat>
     ensures { IsRepeatIf (int_eq value (pos 0)) (boards_in board.now plies.now) result }
 {
     match value {

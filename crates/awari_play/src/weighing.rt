@@ -1,11 +1,14 @@
 //! What the legal moves of a board are worth.
 
-ghost use Rattle.std.specs.Prelude.{◌≡◌, ◌≤◌, ◌<◌, ◌↔◌, IsOk, IfOk, IfErr, length, sum, All, map};
+ghost use Rattle.std.specs.Prelude.{◌≡◌, ◌≤◌, ◌<◌, ◌↔◌, IsOk, IfOk, IfErr, List, length, sum, All, map};
 ghost use Rattle.awari_board.specs.Rules.{IsLegal};
+ghost use Rattle.awari_table.specs.declared.images.Image.{Image};
+ghost use Rattle.awari_play.specs.Saying.{IsRefusedIn};
 ghost use Rattle.awari_play.specs.Worths.{IsReplied, IsWeighed, worth_in};
 
+use crate::lookups::Table;
 use crate::replies::{Replies, replies_to};
-use crate::worths::{MoveWorth, move_worths};
+use crate::worths::{MoveWorth, worths_of};
 use arrayvec::ArrayVec;
 use awari_board::Board;
 use awari_table::{Entry, NotYet, Shelf};
@@ -36,45 +39,71 @@ pub fn weigh(shelf: &Shelf, board: &Board, replies: bool) -> Result<Weighed, Not
     ensures weighed { IfOk result (IsWeighed replies shelf.now board.now) }
     ensures not_yet { IfErr result (λ fault. fault.levels ≡ length shelf.now) }
 {
-    let entry = shelf.entry(board)?;
-    let worths = move_worths(shelf, board)?;
-    let moves = with_replies(shelf, board, worths.as_slice(), replies);
+    let levels = shelf.levels();
+    if board.stones() >= levels {
+        return Err(NotYet { levels });
+    }
+    let mut table = shelf;
+    match weigh_by(&mut table, board, replies) {
+        Ok(weighed) => Ok(weighed),
+        Err(_) => unreachable!(),
+    }
+}
+
+/// What a table says of the board and of its legal moves, and of the replies to each if `replies` asks for
+/// them. Condition: the board's level is there. It is refused as a look-up is, and takes no memory of its own.
+pub fn weigh_by<T: Table>(table: &mut T, board: &Board, replies: bool) -> Result<Weighed, T::Fault>
+    requires { sum board.now < T.saying.levels table.old }
+    ensures weighed { (images : List Image) → T.saying.says table.old images → IfOk result (IsWeighed replies images board.now) }
+    ensures keeps { T.saying.keeps table.old table.new }
+    ensures fault { IfErr result (IsRefusedIn T.saying table.old) }
+{
+    let entry = table.entry(board)?;
+    let worths = worths_of(table, board)?;
+    let moves = with_replies(table, board, worths.as_slice(), replies)?;
     Ok(Weighed { entry, moves })
 }
 
 /// The moves of a board with these worths, and the replies to each if `asked` says so.
-fn with_replies(
-    shelf: &Shelf,
+fn with_replies<T: Table>(
+    table: &mut T,
     board: &Board,
     worths: &[MoveWorth],
     asked: bool,
-) -> ArrayVec<WeighedMove, 6>
-    requires known { sum board.now < length shelf.now }
+) -> Result<ArrayVec<WeighedMove, 6>, T::Fault>
+    requires known { sum board.now < T.saying.levels table.old }
     requires few { length worths.now ≤ 6 }
     requires legal { All (λ w. IsLegal board.now w.pit) worths.now }
-    ensures worths { map worth_in result.items ≡ worths.now }
-    ensures replies { All (IsReplied asked shelf.now board.now) result.items }
+    ensures worths { IfOk result (λ moves. map worth_in moves.items ≡ worths.now) }
+    ensures replies { (images : List Image) → T.saying.says table.old images → IfOk result (λ moves. All (IsReplied asked images board.now) moves.items) }
+    ensures keeps { T.saying.keeps table.old table.new }
+    ensures fault { IfErr result (IsRefusedIn T.saying table.old) }
 {
     let mut moves = ArrayVec::new();
     for worth in worths {
-        moves.push(weighed_move(shelf, board, *worth, asked));
+        moves.push(weighed_move(table, board, *worth, asked)?);
     }
-    moves
+    Ok(moves)
 }
 
 /// The move of this worth, and the replies to it if `asked` says so.
-fn weighed_move(shelf: &Shelf, board: &Board, worth: MoveWorth, asked: bool) -> WeighedMove
-    requires known { sum board.now < length shelf.now }
+fn weighed_move<T: Table>(
+    table: &mut T,
+    board: &Board,
+    worth: MoveWorth,
+    asked: bool,
+) -> Result<WeighedMove, T::Fault>
+    requires known { sum board.now < T.saying.levels table.old }
     requires legal { IsLegal board.now worth.pit }
-    ensures worth { result.worth ≡ worth }
-    ensures replies { IsReplied asked shelf.now board.now result }
+    ensures worth { IfOk result (λ moves. moves.worth ≡ worth) }
+    ensures replies { (images : List Image) → T.saying.says table.old images → IfOk result (IsReplied asked images board.now) }
+    ensures keeps { T.saying.keeps table.old table.new }
+    ensures fault { IfErr result (IsRefusedIn T.saying table.old) }
 {
-    if asked {
-        let replies = Some(replies_to(shelf, board, worth.pit));
-        return WeighedMove { worth, replies };
+    if !asked {
+        let replies = None;
+        return Ok(WeighedMove { worth, replies });
     }
-    WeighedMove {
-        worth,
-        replies: None,
-    }
+    let replies = Some(replies_to(table, board, worth.pit)?);
+    Ok(WeighedMove { worth, replies })
 }

@@ -1,12 +1,16 @@
 //! What each legal move of a board is worth.
 
-ghost use Rattle.std.specs.Prelude.{◌≡◌, ◌≢◌, ◌<◌, ◌↔◌, ℕ, All, Contains, IsOk, IfOk, IfErr, length, map, pos, sum};
+ghost use Rattle.std.specs.Prelude.{◌≡◌, ◌≢◌, ◌<◌, ◌↔◌, ℕ, All, Contains, List, Some, IsOk, IfOk, IfErr, length, map, pos, sum};
 ghost use Rattle.std.specs.List.Sorted.{IsStrictlyIncreasing};
 ghost use Rattle.awari_board.specs.Rules.{IsLegal};
 ghost use Rattle.awari_table.specs.Reached.{Reaches, gain_of};
 ghost use Rattle.awari_table.specs.Images.{table_of};
+ghost use Rattle.awari_table.specs.declared.images.Image.{Image};
 ghost use Rattle.awari_play.specs.MoveWorth.{IsMoveWorth, IsWorthOf, pit_of};
+ghost use Rattle.awari_play.specs.Saying.{IsRefusedIn};
+ghost use Rattle.awari_play.specs.Worths.{AreWorths};
 
+use crate::lookups::Table;
 use arrayvec::ArrayVec;
 use awari_board::Board;
 use awari_table::{NotYet, Reached, Shelf};
@@ -40,22 +44,43 @@ pub fn move_worths(shelf: &Shelf, board: &Board) -> Result<ArrayVec<MoveWorth, 6
     if board.stones() >= levels {
         return Err(NotYet { levels });
     }
-    Ok(worths_of(shelf, board))
+    let mut table = shelf;
+    match worths_of(&mut table, board) {
+        Ok(worths) => Ok(worths),
+        Err(_) => unreachable!(),
+    }
 }
 
-/// What the legal pits are worth of a board whose level is on the shelf.
-fn worths_of(shelf: &Shelf, board: &Board) -> ArrayVec<MoveWorth, 6>
-    requires known { sum board.now < length shelf.now }
-    ensures legal { (pit : ℕ) → Contains (map pit_of result.items) pit ↔ IsLegal board.now pit }
-    ensures ascending { IsStrictlyIncreasing (map pit_of result.items) }
-    ensures worth { All (IsMoveWorth (table_of shelf.now) board.now) result.items }
+/// What each legal pit of a board is worth by a table, ascending by pit. Condition: the board's level is
+/// there.
+pub(crate) fn worths_of<T: Table>(
+    table: &mut T,
+    board: &Board,
+) -> Result<ArrayVec<MoveWorth, 6>, T::Fault>
+    requires { sum board.now < T.saying.levels table.old }
+    ensures legal { IfOk result (λ worths. All (λ w. IsLegal board.now w.pit) worths.items) }
+    ensures worths { (images : List Image) → T.saying.says table.old images → IfOk result (λ worths. AreWorths images board.now worths.items) }
+    ensures keeps { T.saying.keeps table.old table.new }
+    ensures fault { IfErr result (IsRefusedIn T.saying table.old) }
 {
     let mut worths = ArrayVec::new();
     let moves = board.moves();
     for pit in moves.as_slice() {
-        worths.push(worth_of(shelf, board, *pit));
+        worths.push(worth_in(table, board, *pit)?);
     }
-    worths
+    Ok(worths)
+}
+
+/// What a legal pit of a board is worth by a table. Condition: the board's level is there.
+fn worth_in<T: Table>(table: &mut T, board: &Board, pit: u8) -> Result<MoveWorth, T::Fault>
+    requires known { sum board.now < T.saying.levels table.old }
+    requires legal { IsLegal board.now pit }
+    ensures pit { IfOk result (λ worth. worth.pit ≡ pit) }
+    ensures worth { (images : List Image) → T.saying.says table.old images → IfOk result (IsWorthOf (table_of images) board.now pit) }
+    ensures keeps { T.saying.keeps table.old table.new }
+    ensures fault { IfErr result (IsRefusedIn T.saying table.old) }
+{
+    Ok(worth_by(pit, reached(table, board, pit)?))
 }
 
 /// What a pit of a board is worth. Conditions: the board's level is on the shelf, and the pit is legal. It
@@ -65,25 +90,27 @@ pub fn worth_of(shelf: &Shelf, board: &Board, pit: u8) -> MoveWorth
     requires legal { IsLegal board.now pit }
     ensures { IsWorthOf (table_of shelf.now) board.now pit result }
 {
-    match reached(shelf, board, pit) {
-        Some(reached) => worth_by(pit, reached),
-        None => unreachable!(),
+    let mut table = shelf;
+    match worth_in(&mut table, board, pit) {
+        Ok(worth) => worth,
+        Err(_) => unreachable!(),
     }
 }
 
-/// What a pit of a board captures and leads to, or none if it is not legal. Condition: the board's
-/// level is on the shelf.
-pub(crate) fn reached(shelf: &Shelf, board: &Board, pit: u8) -> Option<Reached>
-    requires { sum board.now < length shelf.now }
-    ensures { Reaches (table_of shelf.now) board.now pit result }
+/// What a legal pit of a board captures and leads to, by a table. Condition: the board's level is there. It
+/// takes no memory.
+pub fn reached<T: Table>(table: &mut T, board: &Board, pit: u8) -> Result<Reached, T::Fault>
+    requires known { sum board.now < T.saying.levels table.old }
+    requires legal { IsLegal board.now pit }
+    ensures reached { (images : List Image) → T.saying.says table.old images → IfOk result (λ m. Reaches (table_of images) board.now pit (Some m)) }
+    ensures keeps { T.saying.keeps table.old table.new }
+    ensures fault { IfErr result (IsRefusedIn T.saying table.old) }
 {
     let Ok(moved) = board.play(pit) else {
-        return None;
-    };
-    let Ok(entry) = shelf.entry(&moved.board) else {
         unreachable!()
     };
-    Some(Reached::of(moved.captured, entry))
+    let entry = table.entry(&moved.board)?;
+    Ok(Reached::of(moved.captured, entry))
 }
 
 /// What a move of this pit is worth that captures and leads to this. It takes no memory.

@@ -1,15 +1,5 @@
+use Rattle.std.proofs.Common.{refl}
 use Rattle.awari_play.proofs.worths.worth_of.Goals as goal
 
 pub returns : goal.returns
-returns c =
-    let (next, move, value, plies) = c.in-Some.ensures in
-    record {
-      pit = c.worth_by.ensures.pit;
-      worth = record {
-        next = next;
-        move = rw (c.worth_by.ensures.pit, c.worth_by.ensures.captured) move;
-        gain = rw (c.worth_by.ensures.captured, ← value) c.worth_by.ensures.gain;
-        even = c.worth_by.ensures.even;
-        uneven = rw (c.worth_by.ensures.captured, ← plies) c.worth_by.ensures.uneven;
-      };
-    }
+returns c = c.in-Ok.ensures.worth _ refl

@@ -1,7 +1,7 @@
 use Rattle.std.proofs.Common.{◌≡◌, subst}
 use Rattle.awari_board.specs.Rules.{IsLegal}
 use Rattle.awari_play.proofs.Following.{planned}
-use Rattle.awari_play.proofs.lines.plan.Goals as goal
+use Rattle.awari_play.proofs.longest.plan.Goals as goal
 
 pub unreachable-requires-in-None : goal.unreachable-requires-in-None
 unreachable-requires-in-None c =
