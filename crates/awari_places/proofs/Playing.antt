@@ -1,21 +1,10 @@
 -- A pit that is due on a board that was judged, and the board that it leaves.
-use Rattle.std.proofs.Common.{Bool, zero, suc, ◌+◌, length, take, get_or, ◌≡◌, ℕ, ◌<◌, ◌++◌, ◌∷◌, [], List, sum, pos, Option, Some, Result, Ok, Err, sym, ap, subst, ◌∙◌, arith}
+use Rattle.std.proofs.Common.{◌≡◌, ℕ, List, pos, Option, Some, Result, Ok, Err, sym, subst, ◌∙◌, arith}
 use Rattle.std.specs.Prelude.{IfOk, IfSome, ◌<ℤ◌}
 use Rattle.std.proofs.lemmas.Int.{ints}
-use Rattle.std.proofs.lemmas.List.{take_more}
-use Rattle.std.specs.Ordering.{int_eq}
-use Rattle.awari_play.specs.Plies.{AreLinePlies, IsLineBy, IsRepeatIf, boards_in, plies_of}
-use Rattle.awari_play.specs.declared.plies.LinePlies.{LinePlies}
-use Rattle.awari_table.specs.Images.{entry_of}
-use Rattle.awari_table.specs.declared.images.Image.{Image}
-use Rattle.awari_board.specs.Rules.{IsBoard, IsLegal, next_board}
-use Rattle.awari_game.specs.Plays.{IsPlay, Standing, after, start}
-use Rattle.awari_game.specs.Shown.{Shows}
 use Rattle.awari_table.specs.Certificate.{Table, IsRight, MovesNoLater}
-use Rattle.awari_theory.proofs.Moves.{stones_kept, move_of}
 use Rattle.awari_folder.specs.declared.faults.FolderFault.{FolderFault}
 use Rattle.awari_play.specs.LongestLine.{HoldsLongest}
-use Rattle.awari_play.proofs.Following.{seen_after}
 use Rattle.awari_play.proofs.HoldingOut.{far_lost}
 use Rattle.awari_verify.specs.Sights.{Sees}
 use Rattle.awari_verify.specs.declared.rules.Seen.{Seen}
@@ -34,4 +23,3 @@ due_at t p seen pit (Ok x) sees right favoured other is = record {
       let holds = other (subst (λ v. v <ℤ pos 0) (sym sees.value) down) t p sees later in
       subst (λ o. IfSome o (HoldsLongest t p)) is holds;
 }
-

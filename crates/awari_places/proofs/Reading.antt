@@ -1,7 +1,7 @@
 -- What is known of an entry that was read at its place, and of the file's frame.
-use Rattle.std.proofs.Common.{Bool, true, false, ◌≡◌, ℕ, ◌<◌, List, get_or, length, slice_get, sum, Option, Some, Result, Ok, Err, inl, sym, ap, subst, ◌∙◌, arith}
+use Rattle.std.proofs.Common.{◌≡◌, ℕ, ◌<◌, List, get_or, slice_get, sum, Option, Some, Result, Ok, Err, inl, sym, ap, subst, ◌∙◌, arith}
 use Rattle.std.specs.Prelude.{IfErr, IfOk, IsSomeAnd}
-use Rattle.std.proofs.lemmas.List.FromFn.{get_or-map-range_with_len, length-map-range_with_len}
+use Rattle.std.proofs.lemmas.List.FromFn.{get_or-map-range_with_len}
 use Rattle.std.proofs.lemmas.Option.{slice_get-get_or}
 use Rattle.awari_rank.specs.Rank.{rank_of, size_of}
 use Rattle.awari_table.specs.Images.{entry_of, no_entry, no_image}
@@ -10,15 +10,9 @@ use Rattle.awari_table.specs.declared.images.Image.{Image}
 use Rattle.awari_folder.specs.declared.faults.FolderFault.{FolderFault}
 use Rattle.awari_folder.specs.declared.faults.FolderFault.TheVariants.{Below, File, Open, Verify, Memory, Occupied, Old}
 use Rattle.awari_folder.specs.Contents.{IsOfFile, OpenIfRefused, Refusals, Same}
-use Rattle.awari_play.specs.Worths.{AreReplies, IsReplied}
-use Rattle.awari_play.specs.declared.replies.Replies.{Replies}
-use Rattle.awari_play.specs.declared.weighing.WeighedMove.{WeighedMove}
 use Rattle.awari_places.specs.Places.{Says, entry_in, image_in, image_named, images_in}
 use Rattle.awari_places.proofs.Saying.{some_of}
-
-pub ok_along : {T E : Type 0} (r : Result T E) (P Q : T → Type 0) → ((x : T) → P x → Q x) → IfOk r P → IfOk r Q
-ok_along (Ok x) P Q f h = f x h
-ok_along (Err e) P Q f h = tt
+pub use Rattle.awari_places.specs.Lasting.{levels_said, still_says}
 
 -- a refusal for what a file says is not 82
 pub not_open : {T : Type 0} (r : Result T FolderFault) (old new : Refusals) → IfErr r IsOfFile → new ≡ old → OpenIfRefused r old new
@@ -63,11 +57,6 @@ entry_said_at stands levels images p level rank (Ok e) says stones ranked low be
     let here : IsSomeAnd (says.names (sum p)) (λ bytes. e ≡ entry_in bytes (rank_of p)) = subst (λ (k : ℕ). IsSomeAnd (says.names (sum p)) (λ bytes. e ≡ entry_in bytes k)) ranked at in
     entry_said stands levels images p e says low (subst (λ (k : ℕ). k < size_of (sum p)) ranked below) here
 
--- as many levels speak
-pub levels_said : (stands : ℕ → Option (Option (List ℕ))) (levels : ℕ) (images : List Image) → Says stands levels images → length images ≡ levels
-unfolding images_in
-levels_said stands levels images says = ap length says.said ∙ length-map-range_with_len (image_named says.names) 0 levels
-
 pub image_got : (stands : ℕ → Option (Option (List ℕ))) (levels level : ℕ) (images : List Image) (says : Says stands levels images) → level < levels
     → slice_get images level ≡ Some (image_in level (says.names level))
 image_got stands levels level images says low =
@@ -75,14 +64,5 @@ image_got stands levels level images says low =
     ∙ ap (λ (l : List Image). some_image (get_or l level no_image)) says.said
     ∙ ap some_image (image_there says.names levels level low)
 
--- what files say that did not change
-pub still_says : (old new : ℕ → Option (Option (List ℕ))) (levels : ℕ) (images : List Image) → Same old new → Says old levels images → Says new levels images
-still_says old new levels images same says = record { names = says.names; known = λ n. same n ∙ says.known n; said = says.said }
-
 pub said_before : (old new : ℕ → Option (Option (List ℕ))) (levels : ℕ) (images : List Image) → Same old new → Says new levels images → Says old levels images
 said_before old new levels images same says = record { names = says.names; known = λ n. sym (same n) ∙ says.known n; said = says.said }
-
--- replies that were asked for
-pub replied : (asked : Bool) (images : List Image) (board : List ℕ) (m : WeighedMove) (replies : Replies) → asked ≡ true → m.replies ≡ Some replies → AreReplies images board m.worth.pit replies → IsReplied asked images board m
-replied true images board m replies asks some are = (replies, some, are)
-replied false images board m replies asks some are = absurd cc

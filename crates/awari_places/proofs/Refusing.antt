@@ -1,7 +1,7 @@
 -- Which refusals are due, by what was read and by what a folder says that did not change.
-use Rattle.std.proofs.Common.{Bool, true, false, ◌≡◌, ◌⊎◌, ℕ, ◌+◌, ◌<◌, ◌≤◌, List, drop, length, sum, take, nat_lt, Option, Some, None, Result, Ok, Err, pos, ℤ, inl, inr, refl, sym, ap, subst, ◌∙◌, arith, if◌then◌else◌}
+use Rattle.std.proofs.Common.{Bool, false, ◌≡◌, ◌⊎◌, ℕ, ◌+◌, ◌<◌, ◌≤◌, List, drop, length, sum, take, nat_lt, Option, Some, None, Result, Ok, Err, pos, ℤ, inl, inr, refl, sym, ap, subst, ◌∙◌, arith, if◌then◌else◌}
 use Rattle.std.proofs.Math.Seq.{take-length}
-use Rattle.std.specs.Prelude.{IfErr, IfSome, IsErr, IsErrAnd, IsSome, OnErr, ◌<ℤ◌}
+use Rattle.std.specs.Prelude.{IfErr, IfSome, IsErr, IsSome, OnErr, ◌<ℤ◌}
 use Rattle.std.proofs.lemmas.Int.{ints}
 use Rattle.awari_board.specs.Rules.{IsBoard, IsLegal}
 use Rattle.awari_file.specs.FileText.{entry_place}
@@ -19,13 +19,15 @@ use Rattle.awari_table.specs.Images.{table_of}
 use Rattle.awari_verify.specs.FirstFailure.{BreaksFirst}
 use Rattle.awari_verify.specs.Sights.{Sees}
 use Rattle.awari_verify.specs.declared.rules.Rule.{Rule}
-use Rattle.awari_verify.specs.declared.rules.Rule.TheVariants.{V3, V6}
+use Rattle.awari_verify.specs.declared.rules.Rule.TheVariants.{V6}
 use Rattle.awari_verify.specs.declared.rules.Seen.{Seen}
 use Rattle.awari_verify.specs.declared.verdicts.VerifyFault.TheVariants.{Refused}
 use Rattle.awari_table.specs.declared.images.Entry.{Entry}
 use Rattle.awari_table.specs.declared.images.Image.{Image}
-use Rattle.awari_places.specs.Faults.{IsBreachFault, IsDueFault, IsEntryFault, IsFileFaultAt, IsJudgeFault, IsLineFault, IsLongestFault, IsLookFault, IsNotLegal, IsPlaceFault, IsPlanFault, IsPliesFault, IsRefusedAt, IsUnsaid}
+use Rattle.awari_places.specs.Faults.{IsBreachFault, IsDueFault, IsEntryFault, IsFileFaultAt, IsJudgeFault, IsLongestFault, IsLookFault, IsPlaceFault, IsRefusedAt, IsUnsaid}
+use Rattle.awari_play.specs.Unplayed.{IsNotLegal}
 use Rattle.awari_places.specs.Places.{Says}
+pub use Rattle.awari_places.specs.Lasting.{refused_before}
 use Rattle.awari_places.proofs.Reading.{still_says}
 
 abbrev Stands : Type 0
@@ -82,9 +84,6 @@ refused_at (Err f) stands board level rank whole stones ranked is =
 
 -- ---- what is due by names that have what they had
 
-pub refused_before : (old new : Stands) (board : List ℕ) (fault : FolderFault) → Same old new → IsRefusedAt new board fault → IsRefusedAt old board fault
-refused_before old new board fault same is = record { is_board = is.is_board; due = subst (λ (o : Option (Option (List ℕ))). IsEntryFault (sum board) (rank_of board) o fault) (same (sum board)) is.due }
-
 pub look_before : (old new : Stands) (levels : ℕ) (fault : FolderFault) → Same old new → IsLookFault levels new fault → IsLookFault levels old fault
 look_before old new levels fault same is = record { board = is.board; known = is.known; here = refused_before old new is.board fault same is.here }
 
@@ -95,14 +94,6 @@ look_at stands levels board fault low is = record { board = board; known = low; 
 pub look_memory : (stands : Stands) (levels : ℕ) (board : List ℕ) (fault : FolderFault) → IsBoard board → sum board < levels → fault ≡ Memory → IsLookFault levels stands fault
 look_memory stands levels board fault whole low told =
     let here : IsLookFault levels stands Memory = record { board = board; known = low; here = record { is_board = whole; due = tt } } in subst (IsLookFault levels stands) (sym told) here
-
-pub plan_before : (old new : Stands) (levels : ℕ) (fault : FolderFault) → Same old new → IsPlanFault levels new fault → IsPlanFault levels old fault
-plan_before old new levels fault same is =
-    record { board = is.board; is_board = is.is_board; known = is.known; told = is.told; illegal = λ images says. is.illegal images (still_says old new levels images same says) }
-
-pub line_before : (old new : Stands) (levels : ℕ) (fault : FolderFault) → Same old new → IsLineFault levels new fault → IsLineFault levels old fault
-line_before old new levels fault same (inl is) = inl (look_before old new levels fault same is)
-line_before old new levels fault same (inr is) = inr (plan_before old new levels fault same is)
 
 pub breach_before : (old new : Stands) (levels : ℕ) (fault : FolderFault) → Same old new → IsBreachFault levels new fault → IsBreachFault levels old fault
 breach_before old new levels fault same is =
@@ -123,19 +114,6 @@ longest_before old new levels fault same (inr is) = inr (unsaid_before old new l
 pub err_along : {T : Type 0} (r : Result T FolderFault) (P Q : FolderFault → Type 0) → ((f : FolderFault) → P f → Q f) → IfErr r P → IfErr r Q
 err_along (Ok x) P Q go h = tt
 err_along (Err f) P Q go h = go f h
-
--- a plan that is not legal
-pub plan_fault : (stands : Stands) (levels : ℕ) (board : List ℕ) (plan : Option ℕ) (r : Result ℕ FolderFault) → sum board < levels → OnErr r (IsBoard board)
-    → IfErr r (λ fault. fault ≡ Verify (sum board) (Refused (rank_of board) V3)) → OnErr r (IsNotLegal board plan) → ((images : List Image) → Says stands levels images → (table_of images).plan board ≡ plan)
-    → IfErr r (IsLineFault levels stands)
-plan_fault stands levels board plan (Ok x) low whole told illegal is = tt
-plan_fault stands levels board plan (Err f) low whole told illegal is = inr (record {
-  board = board;
-  is_board = whole;
-  known = low;
-  told = told;
-  illegal = λ images says. subst (IsNotLegal board) (sym (is images says)) illegal;
-})
 
 -- ---- judged boards
 
@@ -191,12 +169,3 @@ due_longest old new levels board fault same low far (inl is) = inl (judge_before
 due_longest old new levels board fault same low far (inr is) =
     inr (record { board = board; known = low; told = is.told; unsaid = λ images says. is.undue images (still_says old new levels images same says) (far images says) })
 
--- a look-up is refused along either line
-pub plies_look : (longest : Bool) (stands : Stands) (levels : ℕ) (fault : FolderFault) → IsLookFault levels stands fault → IsPliesFault longest levels stands fault
-plies_look true stands levels fault is = inl (inl is)
-plies_look false stands levels fault is = inl is
-
--- a refusal that is handed on as it is
-pub err_same : {T : Type 0} (r : Result T FolderFault) (P : FolderFault → Type 0) (f : FolderFault) → IsErrAnd r (λ g. g ≡ f) → P f → IfErr r P
-err_same (Ok x) P f same h = tt
-err_same (Err g) P f same h = subst P (sym same) h

@@ -1,6 +1,6 @@
 -- Which refusals come of what is looked up in files, by what has the names of the levels, as far as that is known.
 use Rattle.std.specs.Prelude.{◌≡◌, ◌⊎◌, ⊤, ℕ, ◌+◌, ◌<◌, ◌≤◌, Bool, true, false, List, drop, length, sum, take, Option, None, IfSome, IsErr, IsSomeAnd}
-use Rattle.awari_board.specs.Rules.{IsBoard, IsLegal}
+use Rattle.awari_board.specs.Rules.{IsBoard}
 use Rattle.awari_file.specs.FileText.{entry_place}
 use Rattle.awari_file.specs.Reading.{entry_of}
 use Rattle.awari_file.specs.declared.faults.FileFault.{FileFault}
@@ -16,6 +16,10 @@ use Rattle.awari_verify.specs.FirstFailure.{BreaksFirst}
 use Rattle.awari_verify.specs.declared.rules.Rule.{Rule}
 use Rattle.awari_verify.specs.declared.rules.Rule.TheVariants.{V3, V6}
 use Rattle.awari_verify.specs.declared.verdicts.VerifyFault.TheVariants.{Refused}
+use Rattle.awari_play.specs.Unplayed.{IsNotLegal}
+use Rattle.awari_play.specs.declared.lookups.Unplayed.{Unplayed}
+use Rattle.awari_play.specs.declared.lookups.Unplayed.TheVariants as unplayed
+use Rattle.awari_table.specs.declared.TheConstants.{HIGHEST_LEVEL}
 use Rattle.awari_places.specs.Opening.{IsFrameFault}
 use Rattle.awari_places.specs.Places.{Says}
 
@@ -70,10 +74,6 @@ pub record IsUnread (levels : ℕ) (names : ℕ → Option (List ℕ)) (fault : 
   pub low : level < levels
   pub due : IsLimitFault level (names level) fault ⊎ Names level fault
 
--- the pit, if there is one, is not legal on the board
-abbrev pub IsNotLegal : List ℕ → Option ℕ → Type 0
-IsNotLegal p pit = IfSome pit (λ x. IsLegal p x → ⊥)
-
 -- It is 83 with V3 at some board of these levels whose plan is not legal, by what the files say.
 pub record IsPlanFault (levels : ℕ) (stands : ℕ → Option (Option (List ℕ))) (fault : FolderFault) : Type 0 where
   pub board : List ℕ
@@ -123,3 +123,14 @@ IsLongestFault levels stands fault = IsJudgeFault levels stands fault ⊎ IsUnsa
 abbrev pub IsPliesFault : Bool → ℕ → (ℕ → Option (Option (List ℕ))) → FolderFault → Type 0
 IsPliesFault true levels stands fault = IsLongestFault levels stands fault
 IsPliesFault false levels stands fault = IsLineFault levels stands fault
+
+-- how a play that is not told is refused: 84, as a look-up is, or 83 with V3 for a plan that is not legal
+abbrev pub refusal_of : Unplayed FolderFault → FolderFault
+refusal_of unplayed.Memory = Memory
+refusal_of (unplayed.Refused fault) = fault
+refusal_of (unplayed.Illegal board) = Verify (sum board) (Refused (rank_of board) V3)
+
+-- the board whose plan is not legal, if there is one, is of a level that has a number
+abbrev pub IsLowAt : Unplayed FolderFault → Type 0
+IsLowAt (unplayed.Illegal board) = sum board ≤ HIGHEST_LEVEL
+IsLowAt fault = ⊤

@@ -3,3 +3,5 @@ pub mod Opening
 pub mod Faults
 pub mod Judging
 pub mod Runs
+pub mod Asked
+pub mod Lasting

@@ -16,9 +16,10 @@ ghost use Rattle.awari_places.specs.Faults.{IsJudgeFault, IsLookFault};
 ghost use Rattle.awari_places.specs.Places.{IsLevelOf, Says};
 
 use crate::entries::entry;
-use crate::worths::reached;
+use crate::files::Files;
 use awari_board::{Board, SIDE};
 use awari_folder::{Folder, FolderFault};
+use awari_play::reached;
 use awari_rank::rank;
 use awari_table::Reached;
 use awari_verify::{Rule, Seen, VerifyFault, first_broken_rule};
@@ -110,5 +111,6 @@ fn see_move<F: Folder>(
     if !board.legal(pit) {
         return Ok(None);
     }
-    Ok(Some(reached(folder, levels, board, pit)?))
+    let mut files = Files { folder, levels };
+    Ok(Some(reached(&mut files, board, pit)?))
 }

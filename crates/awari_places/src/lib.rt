@@ -17,6 +17,7 @@
 #![tactic(auto)]
 
 mod entries;
+mod files;
 mod judging;
 mod kept;
 mod laws;
@@ -24,13 +25,12 @@ mod lines;
 mod longest;
 mod opening;
 mod plies;
-mod replies;
 mod runs;
 mod said;
 mod weighing;
-mod worths;
 
 pub use entries::entry;
+pub use files::Files;
 pub use kept::Run;
 pub use laws::{right_files_are_opened, right_files_say_their_shelf};
 pub use lines::best_line;

@@ -1,22 +1,27 @@
 //! Play in which the favoured side follows the plans that the files say, and the other side holds out.
 
-ghost use Rattle.std.specs.Prelude.{◌≡◌, ◌↔◌, ℕ, List, IsTrue, IfErr, IfOk, IfSome, IsSome, pos, ◌<ℤ◌, sum};
+ghost use Rattle.std.specs.Prelude.{◌≡◌, ◌≤◌, ◌↔◌, ℕ, List, Some, IsTrue, IfErr, IfOk, OnErr, IfSome, IsSome, pos, ◌<ℤ◌, sum};
 ghost use Rattle.awari_board.specs.Rules.{IsBoard, IsLegal};
 ghost use Rattle.awari_folder.specs.State.{Unchanged};
+ghost use Rattle.awari_folder.specs.declared.faults.FolderFault.TheVariants.{Verify};
 ghost use Rattle.awari_game.specs.Plays.{IsPlay, Standing, start};
 ghost use Rattle.awari_play.specs.Holding.{TakesPlies};
 ghost use Rattle.awari_play.specs.LongestLine.{HoldsLongest, IsLongestLine};
+ghost use Rattle.awari_play.specs.Unplayed.{IsNotLegal};
+ghost use Rattle.awari_rank.specs.Rank.{rank_of};
 ghost use Rattle.awari_table.specs.Certificate.{IsRight, MovesIn, MovesNoLater, Table};
 ghost use Rattle.awari_table.specs.Images.{table_of};
 ghost use Rattle.awari_table.specs.Reached.{Reaches};
+ghost use Rattle.awari_table.specs.declared.TheConstants.{HIGHEST_LEVEL};
 ghost use Rattle.awari_table.specs.declared.images.Image.{Image};
 ghost use Rattle.awari_verify.specs.Sights.{Sees};
+ghost use Rattle.awari_verify.specs.declared.rules.Rule.TheVariants.{V6};
+ghost use Rattle.awari_verify.specs.declared.verdicts.VerifyFault.TheVariants.{Refused};
 ghost use Rattle.awari_places.specs.Judging.{IsDueAt};
 ghost use Rattle.awari_places.specs.Faults.{IsDueFault, IsLongestFault};
 ghost use Rattle.awari_places.specs.Places.{IsLevelOf, Says};
 
-use crate::judging::judged;
-use crate::lines::legal_pit;
+use crate::judging::{broken, judged};
 use awari_board::{Board, SIDE};
 use awari_folder::{Folder, FolderFault};
 use awari_game::Game;
@@ -85,7 +90,22 @@ fn due_pit<F: Folder>(folder: &mut F, levels: u8, board: &Board) -> Result<u8, F
 {
     let seen = judged(folder, levels, board)?;
     // By files that stay as they are, there is a pit where the board's distance says so.
-    legal_pit(board, pit_by(&seen), Rule::V6)
+    legal_pit(board, pit_by(&seen))
+}
+
+/// The pit, if there is one that is legal on the board. It is refused as 83 with V6 if not.
+fn legal_pit(board: &Board, pit: Option<u8>) -> Result<u8, FolderFault>
+    requires { sum board.now ≤ HIGHEST_LEVEL }
+    ensures pit { IfOk result (λ x. pit ≡ Some x) }
+    ensures legal { IfOk result (IsLegal board.now) }
+    ensures board { OnErr result (IsBoard board.now) }
+    ensures told { IfErr result (λ fault. fault ≡ Verify (sum board.now) (Refused (rank_of board.now) V6)) }
+    ensures illegal { OnErr result (IsNotLegal board.now pit) }
+{
+    match pit {
+        Some(pit) if board.legal(pit) => Ok(pit),
+        _ => Err(broken(board, Rule::V6)),
+    }
 }
 
 /// The plan of a board that favours its mover, and the pit that holds out longest on one that does not.

@@ -1,10 +1,9 @@
 -- The plies of a play, one more at a time, and the boards that stand in it.
-use Rattle.std.proofs.Common.{◌≡◌, ℕ, zero, suc, ◌+◌, ◌-◌, ◌<◌, ◌≤◌, Bool, true, false, List, [], ◌∷◌, ◌++◌, length, sum, take, get_or, slice_get, ℤ, Option, Some, None, IfSome, pos, Result, Ok, Err, refl, sym, ap, ◌∙◌, subst, arith, inl, inr}
+use Rattle.std.proofs.Common.{◌≡◌, ℕ, zero, suc, ◌+◌, ◌-◌, ◌<◌, ◌≤◌, Bool, true, false, List, [], ◌∷◌, ◌++◌, length, sum, take, get_or, slice_get, ℤ, Option, Some, None, IfSome, refl, sym, ap, ◌∙◌, subst, arith, inl, inr}
 use Rattle.std.proofs.lemmas.Bool.{cases_lt}
 use Rattle.std.proofs.lemmas.List.{length-map, length-take-le, take_all, take_more}
 use Rattle.std.proofs.lemmas.Option.{slice_get-map, slice_get-get_or}
-use Rattle.std.specs.Ordering.{int_eq}
-use Rattle.std.specs.Prelude.{IfOk, option_map}
+use Rattle.std.specs.Prelude.{option_map}
 use Rattle.awari_board.specs.Rules.{IsBoard, IsLegal, captured, next_board}
 use Rattle.awari_game.specs.Plays.{Standing, start, after, IsPlay}
 use Rattle.awari_game.specs.Shown.{Shows}
@@ -15,8 +14,7 @@ use Rattle.awari_table.specs.declared.images.Image.{Image}
 use Rattle.awari_table.specs.declared.images.Entry.{Entry}
 use Rattle.awari_play.specs.declared.plies.Ply.{Ply}
 use Rattle.awari_play.specs.declared.plies.Repeat.{Repeat}
-use Rattle.awari_play.specs.declared.plies.LinePlies.{LinePlies}
-use Rattle.awari_play.specs.Plies.{AreLinePlies, IsLineBy, IsRepeatIf, NoneRepeats, boards_in, plies_of, ply_of}
+use Rattle.awari_play.specs.Plies.{IsRepeatIf, NoneRepeats, boards_in, plies_of, ply_of}
 
 plies-more : (images : List Image) (n : ℕ) (from u : Standing) (xs : List ℕ) (x : ℕ) → IsPlay from xs u → plies_of images n from (xs ++ x ∷ []) ≡ plies_of images n from xs ++ ply_of images (n + length xs) u x ∷ []
 unfolding plies_of
@@ -100,11 +98,6 @@ told-ply images board pits n x c r b e seen later shows further takes is_running
     ∙ ap (λ (p : List ℕ). ply_with n x (captured s.board x) (after s x).running p e) left
     ∙ ap (λ (f : Entry). ply_with n x (captured s.board x) (after s x).running (next_board s.board x) f) says
 
--- either line is a play
-pub line_play : (longest : Bool) (images : List Image) (board moves : List ℕ) → IsLineBy longest images board moves → (last : Standing) × IsPlay (start board) moves last
-line_play true images board moves line = (line.last, line.play)
-line_play false images board moves (outcome, line) = (line.last, line.play)
-
 -- ---- the boards that stand
 
 pub first_stands : (board : List ℕ) (plies : List Ply) → slice_get (boards_in board plies) 0 ≡ Some board
@@ -158,10 +151,3 @@ repeat_within even board plies None h = tt
 repeat_within true board plies (Some r) h = let len = boards_len board plies in omega (arith, h.within, len)
 repeat_within false board plies (Some r) h = absurd (cc h)
 
--- the plies of a line, if they could be told
-pub told_line : {E : Type 0} (longest : Bool) (images : List Image) (board moves : List ℕ) (r : Result LinePlies E) → IsLineBy longest images board moves
-    → IfOk r (λ found. found.plies.items ≡ plies_of images 1 (start board) moves)
-    → IfOk r (λ found. IsRepeatIf (int_eq (entry_of images board).value (pos 0)) (boards_in board found.plies.items) found.repeat)
-    → IfOk r (λ found. AreLinePlies longest images board found.plies.items found.repeat)
-told_line longest images board moves (Err fault) line each repeats = tt
-told_line longest images board moves (Ok found) line each repeats = record { moves = moves; line = line; each = each; repeats = repeats }

@@ -1,6 +1,7 @@
 use Rattle.std.proofs.Common.{inl}
 use Rattle.awari_table.specs.Images.{table_of}
-use Rattle.awari_places.proofs.Refusing.{breach_at, err_same}
+use Rattle.awari_play.proofs.Lasting.{err_same}
+use Rattle.awari_places.proofs.Refusing.{breach_at}
 use Rattle.awari_places.proofs.judging.judged.Goals as goal
 
 pub returns-in-None-clause-right : goal.returns-in-None-clause-right

@@ -2,7 +2,8 @@ use Rattle.std.proofs.Common.{ap}
 use Rattle.awari_table.specs.declared.images.Entry.{Entry}
 use Rattle.awari_verify.proofs.SightLemmas.{SeesEnd-end}
 use Rattle.awari_places.proofs.Reading.{still_says}
-use Rattle.awari_places.proofs.Refusing.{err_same, look_at, look_before}
+use Rattle.awari_play.proofs.Lasting.{err_same}
+use Rattle.awari_places.proofs.Refusing.{look_at, look_before}
 use Rattle.awari_places.proofs.judging.see.Goals as goal
 
 pub returns-clause-sees : goal.returns-clause-sees

@@ -3,7 +3,8 @@ use Rattle.awari_folder.proofs.States.{unchanged_then}
 use Rattle.awari_table.specs.Images.{table_of}
 use Rattle.awari_table.specs.Reached.{Reaches}
 use Rattle.awari_places.proofs.Reading.{still_says}
-use Rattle.awari_places.proofs.Refusing.{err_same, look_before}
+use Rattle.awari_play.proofs.Lasting.{err_same}
+use Rattle.awari_places.proofs.Refusing.{look_before}
 use Rattle.awari_places.proofs.judging.see_moves.Goals as goal
 
 pub loop-pit-preserved : goal.loop-pit-preserved

@@ -6,9 +6,10 @@ use Rattle.awari_board.specs.Rules.{IsLegal}
 use Rattle.awari_play.specs.LongestLine.{IsDuePit}
 use Rattle.awari_play.proofs.HoldingOut.{held-far, held-more, held-end, held-start}
 use Rattle.awari_places.specs.Judging.{IsDueAt}
-use Rattle.awari_places.proofs.Playing.{known_more, known_start}
+use Rattle.awari_play.proofs.Following.{known_more, known_start}
 use Rattle.awari_places.proofs.Reading.{still_says}
-use Rattle.awari_places.proofs.Refusing.{due_longest, err_same, judge_before, look_memory}
+use Rattle.awari_play.proofs.Lasting.{err_same}
+use Rattle.awari_places.proofs.Refusing.{due_longest, judge_before, look_memory}
 use Rattle.awari_places.specs.Faults.{IsDueFault}
 use Rattle.awari_places.proofs.longest.hold_out.Goals as goal
 

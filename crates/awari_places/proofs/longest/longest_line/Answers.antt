@@ -1,6 +1,7 @@
 use Rattle.std.proofs.Common.{inl}
 use Rattle.awari_places.proofs.Reading.{said_before}
-use Rattle.awari_places.proofs.Refusing.{err_along, err_same, longest_before}
+use Rattle.awari_play.proofs.Lasting.{err_same}
+use Rattle.awari_places.proofs.Refusing.{err_along, longest_before}
 use Rattle.awari_places.proofs.longest.longest_line.Goals as goal
 
 pub hold_out-requires-clause-judged : goal.hold_out-requires-clause-judged

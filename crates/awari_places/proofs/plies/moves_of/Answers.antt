@@ -4,7 +4,7 @@ use Rattle.awari_play.specs.BestLine.{IsBestLine}
 use Rattle.awari_play.specs.Plies.{IsLineBy}
 use Rattle.awari_table.specs.Images.{table_of}
 use Rattle.awari_places.specs.Faults.{IsPliesFault}
-use Rattle.awari_places.proofs.Refusing.{err_same}
+use Rattle.awari_play.proofs.Lasting.{err_same}
 use Rattle.awari_places.proofs.plies.moves_of.Goals as goal
 
 pub returns-then-longest-clause-line : goal.returns-then-longest-clause-line
