@@ -2,6 +2,7 @@
 use Rattle.std.proofs.Common.{Bool, false, ◌≡◌, ◌⊎◌, ℕ, ◌+◌, ◌<◌, ◌≤◌, List, drop, length, sum, take, nat_lt, Option, Some, None, Result, Ok, Err, pos, ℤ, inl, inr, refl, sym, ap, subst, ◌∙◌, arith, if◌then◌else◌}
 use Rattle.std.proofs.Math.Seq.{take-length}
 use Rattle.std.specs.Prelude.{IfErr, IfSome, IsErr, IsSome, OnErr, ◌<ℤ◌}
+use Rattle.std.proofs.lemmas.Bool.Decides.{nat_tests}
 use Rattle.std.proofs.lemmas.Int.{ints}
 use Rattle.awari_board.specs.Rules.{IsBoard, IsLegal}
 use Rattle.awari_file.specs.FileText.{entry_place}
@@ -53,9 +54,9 @@ is_err : (r : Result Entry FileFault) (rest : List ℕ) (e : FileFault) → (r >
 is_err (Ok y) rest e h = absurd cc
 is_err (Err f) rest e h = refl
 
-no_entry_in : (bytes : List ℕ) (e : FileFault) → length bytes ≡ 6 → field 6 entry_of faults.Truncated bytes ≡ Err e → IsErr (entry_of (take 6 bytes))
-no_entry_in bytes e six h =
-    let all : nat_lt (length bytes) 6 ≡ false = rw six refl in
+pub no_entry_in : (bytes : List ℕ) (e : FileFault) → 6 ≤ length bytes → field 6 entry_of faults.Truncated bytes ≡ Err e → IsErr (entry_of (take 6 bytes))
+no_entry_in bytes e long h =
+    let all : nat_lt (length bytes) 6 ≡ false = grind (arith, nat_tests) in
     let judged : Bool → Result (Entry × List ℕ) FileFault = λ b. if b then Err faults.Truncated else (entry_of (take 6 bytes) >>= with_rest (drop 6 bytes)) in
     is_err (entry_of (take 6 bytes)) (drop 6 bytes) e (sym (ap judged all) ∙ h)
 
@@ -67,7 +68,7 @@ read_no_entry (Some (Some bytes)) place size got e reads long six fails =
     let same : size ≡ length bytes = (let is = reads.0 in cc) in
     let is : got ≡ take 6 (drop place bytes) = reads.1 (omega (arith, same, long, six)) ∙ ap (λ (n : ℕ). take n (drop place bytes)) six in
     let all : take 6 got ≡ got = ap (λ (n : ℕ). take n got) (sym six) ∙ take-length got in
-    (omega (arith, same, long), subst (λ (b : List ℕ). IsErr (entry_of b)) (all ∙ is) (no_entry_in got e six fails))
+    (omega (arith, same, long), subst (λ (b : List ℕ). IsErr (entry_of b)) (all ∙ is) (no_entry_in got e (omega (arith, six)) fails))
 
 pub entry_fault : {T : Type 0} (r : Result T FolderFault) (level rank : ℕ) (known : Option (Option (List ℕ))) (place : ℕ) → place ≡ entry_place rank
     → IfErr r (IsFileFaultAt level place known) → IfErr r (IsEntryFault level rank known)
@@ -168,4 +169,3 @@ pub due_longest : (old new : Stands) (levels : ℕ) (board : List ℕ) (fault : 
 due_longest old new levels board fault same low far (inl is) = inl (judge_before old new levels fault same is)
 due_longest old new levels board fault same low far (inr is) =
     inr (record { board = board; known = low; told = is.told; unsaid = λ images says. is.undue images (still_says old new levels images same says) (far images says) })
-

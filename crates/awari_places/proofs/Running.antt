@@ -1,6 +1,6 @@
 -- Entries that were read many at once are those that the files say.
 use Rattle.std.proofs.Common.{◌≡◌, ℕ, ◌+◌, ◌-◌, ◌*◌, ◌<◌, ◌≤◌, List, drop, get_or, length, slice_get, take, Option, Some, None, refl, sym, ap, subst, ◌∙◌, arith}
-use Rattle.std.specs.Prelude.{IsSomeAnd}
+use Rattle.std.specs.Prelude.{IsErr, IsSomeAnd}
 use Rattle.std.proofs.lemmas.List.{drop-drop, drop-take, take-take}
 use Rattle.std.proofs.lemmas.List.FromFn.{length-map-range_with_len}
 use Rattle.std.proofs.lemmas.Option.{slice_get-get_or}
@@ -10,11 +10,17 @@ use Rattle.awari_table.specs.declared.images.Entry.{Entry}
 use Rattle.awari_table.specs.declared.images.Image.{Image}
 use Rattle.awari_file.specs.FileText.{entry_place}
 use Rattle.awari_file.specs.Reading.{entry_of}
-use Rattle.awari_folder.specs.Contents.{Reads}
+use Rattle.awari_file.specs.declared.faults.FileFault.{FileFault}
+use Rattle.awari_file.specs.declared.faults.FileFault.TheVariants as faults
+use Rattle.awari_folder.specs.Contents.{Reads, Same}
+use Rattle.awari_folder.specs.declared.faults.FolderFault.{FolderFault}
+use Rattle.awari_folder.specs.declared.faults.FolderFault.TheVariants.{File}
+use Rattle.awari_places.specs.Faults.{IsEntryFault, IsFaultFrom, IsPlaceFault}
 use Rattle.awari_places.specs.Places.{Says, entry_in, entry_or_none, image_in}
-use Rattle.awari_places.specs.Runs.{AreEntriesOf, IsEntryAt, IsKept, IsRunOf}
+use Rattle.awari_places.specs.Runs.{AreEntriesOf, IsEntryAt, IsFormFault, IsKept, IsLengthFault, IsRunOf}
 use Rattle.awari_places.specs.declared.kept.Run.{Run}
 use Rattle.awari_places.proofs.Reading.{entry_there, image_got}
+use Rattle.awari_places.proofs.Refusing.{read_gone}
 
 abbrev some_image : Image → Option Image
 some_image i = Some i
@@ -85,3 +91,61 @@ kept_said images level rank run e is (k, inside, same, entry) =
 -- a run of no entry
 pub run-none : (images : List Image) (level : ℕ) (run : Run) → run.count ≡ 0 → IsRunOf images level run
 run-none images level run none k lt = absurd (omega (arith, lt, none))
+
+-- ---- why a run is not filled
+
+-- memory ran out, or the folder refused
+pub fault_here : (level rank : ℕ) (known : Option (Option (List ℕ))) (fault : FolderFault) → rank < size_of level → IsEntryFault level rank known fault → IsFaultFrom level rank known fault
+fault_here level rank known fault low is = record { at = rank; from = omega arith; there = low; due = is }
+
+-- the file is gone, or ends before the last of n entries does
+pub fault_length : (level rank n : ℕ) (known : Option (Option (List ℕ))) (room : List ℕ) (found : Option ℕ) (fault : FileFault) → 1 ≤ n → rank + n ≤ size_of level → Reads known (entry_place rank) room found
+    → IsLengthFault found (entry_place rank + 6 * n) fault → IsFaultFrom level rank known (File level fault)
+fault_length level rank n known room None fault some few reads is =
+    record { at = rank; from = omega arith; there = omega (arith, some, few); due = (refl, subst (IsPlaceFault (entry_place rank) known) (sym is) (read_gone known (entry_place rank) room reads)) }
+fault_length level rank n known room (Some size) fault some few reads is =
+    let last : entry_place rank + 6 * n ≡ entry_place (rank + (n - 1)) + 6 = omega (arith, some) in
+    let short : size < entry_place (rank + (n - 1)) + 6 = omega (arith, is.1, last) in
+    record {
+      at = rank + (n - 1);
+      from = omega arith;
+      there = omega (arith, some, few);
+      due = (refl, subst (IsPlaceFault (entry_place (rank + (n - 1))) known) (sym is.0) (short_at known (entry_place rank) (entry_place (rank + (n - 1))) size room reads short));
+    }
+  where
+    short_at : (known : Option (Option (List ℕ))) (place last size : ℕ) (got : List ℕ) → Reads known place got (Some size) → size < last + 6 → IsPlaceFault last known faults.Truncated
+    short_at None place last size got reads short = tt
+    short_at (Some None) place last size got reads short = absurd cc
+    short_at (Some (Some bytes)) place last size got reads short = let same : size ≡ length bytes = (let is = reads.0 in cc) in omega (arith, same, short)
+
+-- six of the bytes that were read are no entry
+pub fault_form : (level rank n : ℕ) (known : Option (Option (List ℕ))) (room : List ℕ) (found : Option ℕ) (fault : FileFault) → length room ≡ 6 * n → rank + n ≤ size_of level → Reads known (entry_place rank) room found
+    → IsSomeAnd found (λ size. entry_place rank + length room ≤ size) → IsFormFault room fault → IsFaultFrom level rank known (File level fault)
+fault_form level rank n known room found fault long few reads whole is =
+    let inside : is.place < n = omega (arith, is.inside, long) in
+    record {
+      at = rank + is.place;
+      from = omega arith;
+      there = omega (arith, inside, few);
+      due = (refl, subst (IsPlaceFault (entry_place (rank + is.place)) known) (sym is.told) (none_at known found reads whole));
+    }
+  where
+    none_at : (known : Option (Option (List ℕ))) (found : Option ℕ) → Reads known (entry_place rank) room found → IsSomeAnd found (λ size. entry_place rank + length room ≤ size)
+        → IsPlaceFault (entry_place (rank + is.place)) known faults.EntryForm
+    none_at known None reads whole = absurd whole
+    none_at None (Some size) reads whole = tt
+    none_at (Some None) (Some size) reads whole = absurd cc
+    none_at (Some (Some bytes)) (Some size) reads whole =
+        let inside : is.place < n = omega (arith, is.inside, long) in
+        let same : size ≡ length bytes = (let at = reads.0 in cc) in
+        let far : entry_place rank + 6 * is.place ≡ entry_place (rank + is.place) = omega arith in
+        let there : room ≡ take (length room) (drop (entry_place rank) bytes) = reads.1 (omega (arith, same, whole)) in
+        let six : take 6 (drop (6 * is.place) room) ≡ take 6 (drop (entry_place (rank + is.place)) bytes) =
+        ap (λ (l : List ℕ). take 6 (drop (6 * is.place) l)) (there ∙ ap (λ (m : ℕ). take m (drop (entry_place rank) bytes)) long) ∙ six_of n is.place (entry_place rank) bytes inside
+        ∙ ap (λ (m : ℕ). take 6 (drop m bytes)) far in
+        (omega (arith, same, whole, long, inside, far), subst (λ (l : List ℕ). IsErr (entry_of l)) six is.none)
+
+-- the same of names that have what they had, and of more ranks
+pub fault_before : (level rank first : ℕ) (old new : ℕ → Option (Option (List ℕ))) (fault : FolderFault) → Same old new → first ≤ rank → IsFaultFrom level rank (new level) fault → IsFaultFrom level first (old level) fault
+fault_before level rank first old new fault same low is =
+    record { at = is.at; from = omega (arith, low, is.from); there = is.there; due = subst (λ (known : Option (Option (List ℕ))). IsEntryFault level is.at known fault) (same level) is.due }

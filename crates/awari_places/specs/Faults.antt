@@ -1,14 +1,13 @@
 -- Which refusals come of what is looked up in files, by what has the names of the levels, as far as that is known.
-use Rattle.std.specs.Prelude.{◌≡◌, ◌⊎◌, ⊤, ℕ, ◌+◌, ◌<◌, ◌≤◌, Bool, true, false, List, drop, length, sum, take, Option, None, IfSome, IsErr, IsSomeAnd}
+use Rattle.std.specs.Prelude.{◌≡◌, ◌⊎◌, ⊤, ℕ, ◌+◌, ◌<◌, ◌≤◌, Bool, true, false, List, drop, length, sum, take, Option, None, Some, IfSome, IsErr, IsSomeAnd}
 use Rattle.awari_board.specs.Rules.{IsBoard}
 use Rattle.awari_file.specs.FileText.{entry_place}
 use Rattle.awari_file.specs.Reading.{entry_of}
 use Rattle.awari_file.specs.declared.faults.FileFault.{FileFault}
 use Rattle.awari_file.specs.declared.faults.FileFault.TheVariants as faults
-use Rattle.awari_folder.specs.FolderFault.{Names}
 use Rattle.awari_folder.specs.declared.faults.FolderFault.{FolderFault}
 use Rattle.awari_folder.specs.declared.faults.FolderFault.TheVariants.{File, Open, Verify, Memory}
-use Rattle.awari_rank.specs.Rank.{rank_of}
+use Rattle.awari_rank.specs.Rank.{rank_of, size_of}
 use Rattle.awari_table.specs.Certificate.{DistancesAreLeast}
 use Rattle.awari_table.specs.Images.{table_of}
 use Rattle.awari_table.specs.declared.images.Image.{Image}
@@ -53,6 +52,13 @@ IsEntryFault level rank known Memory = ⊤
 IsEntryFault level rank known (File n fault) = (n ≡ level) × IsPlaceFault (entry_place rank) known fault
 IsEntryFault level rank known fault = ⊥
 
+-- The entry of some rank of a level, from this one on, is refused so.
+pub record IsFaultFrom (level rank : ℕ) (known : Option (Option (List ℕ))) (fault : FolderFault) : Type 0 where
+  pub at : ℕ
+  pub from : rank ≤ at
+  pub there : at < size_of level
+  pub due : IsEntryFault level at known fault
+
 -- The entry of this board is refused so, by what has the name of its level.
 pub record IsRefusedAt (stands : ℕ → Option (Option (List ℕ))) (board : List ℕ) (fault : FolderFault) : Type 0 where
   pub is_board : IsBoard board
@@ -68,11 +74,11 @@ pub record IsLookFault (levels : ℕ) (stands : ℕ → Option (Option (List ℕ
 abbrev pub IsLimitFault : ℕ → Option (List ℕ) → FolderFault → Type 0
 IsLimitFault level name fault = IsFrameFault level name fault ⊎ ((name ≡ None) × (fault ≡ File level faults.Read))
 
--- One of these levels is not read: the refusal is that of its limit, or of an entry, and then names the level.
+-- One of these levels is not read: the refusal is that of its limit, or of the entry of some rank.
 pub record IsUnread (levels : ℕ) (names : ℕ → Option (List ℕ)) (fault : FolderFault) : Type 0 where
   pub level : ℕ
   pub low : level < levels
-  pub due : IsLimitFault level (names level) fault ⊎ Names level fault
+  pub due : IsLimitFault level (names level) fault ⊎ IsFaultFrom level 0 (Some (names level)) fault
 
 -- It is 83 with V3 at some board of these levels whose plan is not legal, by what the files say.
 pub record IsPlanFault (levels : ℕ) (stands : ℕ → Option (Option (List ℕ))) (fault : FolderFault) : Type 0 where

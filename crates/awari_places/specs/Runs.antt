@@ -1,6 +1,8 @@
 -- Entries of one level in order of rank, read many at once.
-use Rattle.std.specs.Prelude.{◌≡◌, ℕ, ◌+◌, ◌*◌, ◌<◌, ◌≤◌, List, drop, length, slice_get, slice_index_or, take, Some, IsSomeAnd}
+use Rattle.std.specs.Prelude.{◌≡◌, ℕ, ◌+◌, ◌*◌, ◌<◌, ◌≤◌, List, drop, length, slice_get, slice_index_or, take, Option, None, Some, IsErr, IsSomeAnd}
 use Rattle.awari_file.specs.Reading.{entry_of}
+use Rattle.awari_file.specs.declared.faults.FileFault.{FileFault}
+use Rattle.awari_file.specs.declared.faults.FileFault.TheVariants as faults
 use Rattle.awari_table.specs.Images.{no_entry}
 use Rattle.awari_table.specs.declared.images.Entry.{Entry}
 use Rattle.awari_table.specs.declared.images.Image.{Image}
@@ -23,3 +25,19 @@ IsKept run rank e = (k : ℕ) × (k < run.count) × (run.first + k ≡ rank) × 
 pub record AreEntriesOf (bytes : List ℕ) (run : Run) : Type 0 where
   pub few : 6 * run.count ≤ length bytes
   pub each : (k : ℕ) → k < run.count → slice_index_or run.entries k no_entry ≡ entry_or_none (entry_of (take 6 (drop (6 * k) bytes)))
+
+-- the fault of a file that has this many bytes, or is gone, and was to have this many
+abbrev pub IsLengthFault : Option ℕ → ℕ → FileFault → Type 0
+IsLengthFault None whole fault = fault ≡ faults.Read
+IsLengthFault (Some n) whole fault = (fault ≡ faults.Truncated) × (n < whole)
+
+-- the six bytes at this place of those that were read are no entry
+abbrev pub HasNoEntry : List ℕ → ℕ → Type 0
+HasNoEntry bytes place = IsErr (entry_of (take 6 (drop (6 * place) bytes)))
+
+-- some six of the bytes are no entry
+pub record IsFormFault (bytes : List ℕ) (fault : FileFault) : Type 0 where
+  pub told : fault ≡ faults.EntryForm
+  pub place : ℕ
+  pub inside : 6 * place + 6 ≤ length bytes
+  pub none : HasNoEntry bytes place

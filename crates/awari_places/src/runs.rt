@@ -1,6 +1,6 @@
 //! The entries of a level in order of rank, read many at once.
 
-ghost use Rattle.std.specs.Prelude.{◌≡◌, ◌≢◌, ◌<◌, ◌≤◌, ◌+◌, ◌*◌, ℕ, List, Option, Some, IfErr, IfOk, IfSome, IsNone, IsSomeAnd, OnOk, drop, length, slice_index_or, take};
+ghost use Rattle.std.specs.Prelude.{◌≡◌, ◌<◌, ◌≤◌, ◌+◌, ◌*◌, ℕ, List, Option, Some, IfErr, IfOk, IfSome, IsNone, IsSomeAnd, OnErr, OnOk, drop, length, slice_index_or, take};
 ghost use Rattle.awari_file.specs.Reading.{entry_of as entry_of_six};
 ghost use Rattle.awari_file.specs.declared.faults.FileFault.TheVariants as file_fault;
 ghost use Rattle.awari_folder.specs.FolderFault.{Names};
@@ -9,8 +9,9 @@ ghost use Rattle.awari_rank.specs.Rank.{size_of};
 ghost use Rattle.awari_table.specs.Images.{no_entry};
 ghost use Rattle.awari_table.specs.declared.TheConstants.{HIGHEST_LEVEL};
 ghost use Rattle.awari_table.specs.declared.images.Image.{Image};
+ghost use Rattle.awari_places.specs.Faults.{IsFaultFrom};
 ghost use Rattle.awari_places.specs.Places.{Says, entry_or_none};
-ghost use Rattle.awari_places.specs.Runs.{AreEntriesOf, IsEntryAt, IsKept, IsRunOf};
+ghost use Rattle.awari_places.specs.Runs.{AreEntriesOf, HasNoEntry, IsEntryAt, IsFormFault, IsKept, IsLengthFault, IsRunOf};
 
 use crate::kept::{RUN_LEN, Run};
 use awari_file::{ENTRY_LEN, FileFault, entry_at, entry_place};
@@ -25,7 +26,8 @@ const _: () = prove!(RUN_BYTES == RUN_LEN * ENTRY_LEN);
 
 /// The entry of a rank of a level, as the six bytes at its place say it. Whoever asks for ranks in order,
 /// with the same run, has the file read once. Condition: the run is new, or was filled for this level. It
-/// takes memory for a name, and is refused as [`entry`](crate::entry) is.
+/// takes memory for a name, and is refused as [`entry`](crate::entry) is of this rank or of one of those that
+/// are read with it.
 pub fn entry_in_run<F: Folder>(
     folder: &mut F,
     run: &mut Run,
@@ -38,6 +40,7 @@ pub fn entry_in_run<F: Folder>(
     ensures run { (levels : ℕ) (images : List Image) → Says (F.state folder.old).stands levels images → level < levels → IsRunOf images level run.old → IsRunOf images level run.new }
     ensures same { Unchanged (F.state folder.old) (F.state folder.new) }
     ensures named { IfErr result (Names level) }
+    ensures fault { IfErr result (IsFaultFrom level rank ((F.state folder.old).stands level)) }
 {
     match kept(run, rank) {
         Some(entry) => return Ok(entry),
@@ -71,6 +74,7 @@ fn fill<F: Folder>(folder: &mut F, run: &mut Run, level: u8, rank: u32) -> Resul
     ensures filled { OnOk result ((run.new.first ≡ rank) × (0 < run.new.count)) }
     ensures same { Unchanged (F.state folder.old) (F.state folder.new) }
     ensures named { IfErr result (Names level) }
+    ensures fault { IfErr result (IsFaultFrom level rank ((F.state folder.old).stands level)) }
 {
     let count = (size(level) - rank).min(RUN_LEN as u32) as usize;
     let place = entry_place(rank);
@@ -96,7 +100,7 @@ fn fill<F: Folder>(folder: &mut F, run: &mut Run, level: u8, rank: u32) -> Resul
 /// The fault of a file that has this many bytes, or is gone, if it was to have this many.
 fn fault_of_length(size: Option<u64>, whole: u64) -> Option<FileFault>
     ensures none { IsNone result → IsSomeAnd size (λ n. whole ≤ n) }
-    ensures fault { IfSome result (λ fault. fault ≢ file_fault.Memory) }
+    ensures fault { IfSome result (IsLengthFault size whole) }
 {
     match size {
         None => Some(FileFault::Read),
@@ -112,7 +116,7 @@ fn split(run: &mut Run, bytes: &[u8]) -> Result<(), FileFault>
     ensures first { run.new.first ≡ run.old.first }
     ensures entries { AreEntriesOf bytes.now run.new }
     ensures some { OnOk result (0 < run.new.count) }
-    ensures fault { IfErr result (λ fault. fault ≢ file_fault.Memory) }
+    ensures fault { IfErr result (IsFormFault bytes.now) }
 {
     for place in 0..bytes.len() / ENTRY_LEN {
         run.entries[place] = entry_of_place(bytes, place)?;
@@ -125,7 +129,8 @@ fn split(run: &mut Run, bytes: &[u8]) -> Result<(), FileFault>
 fn entry_of_place(bytes: &[u8], place: usize) -> Result<Entry, FileFault>
     requires { 6 * place + 6 ≤ length bytes.now }
     ensures entry { IfOk result (λ e. e ≡ entry_or_none (entry_of_six (take 6 (drop (6 * place) bytes.now)))) }
-    ensures fault { IfErr result (λ fault. fault ≢ file_fault.Memory) }
+    ensures told { IfErr result (λ fault. fault ≡ file_fault.EntryForm) }
+    ensures none { OnErr result (HasNoEntry bytes.now place) }
 {
     match entry_at(&bytes[ENTRY_LEN * place..], FileFault::Truncated) {
         Ok((entry, _)) => Ok(entry),

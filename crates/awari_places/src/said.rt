@@ -2,13 +2,12 @@
 
 ghost use Rattle.std.specs.Prelude.{◌≡◌, ◌⊎◌, ◌<◌, ◌≤◌, ◌+◌, ℕ, List, Option, IfErr, IfOk, IsSomeAnd, Some, length, slice_get, slice_index_or, take};
 ghost use Rattle.awari_folder.specs.Contents.{AreNames};
-ghost use Rattle.awari_folder.specs.FolderFault.{Names};
 ghost use Rattle.awari_folder.specs.State.{Unchanged};
 ghost use Rattle.awari_rank.specs.Rank.{size_of};
 ghost use Rattle.awari_table.specs.Images.{no_entry, no_image};
 ghost use Rattle.awari_table.specs.declared.TheConstants.{HIGHEST_LEVEL};
 ghost use Rattle.awari_table.specs.declared.images.Image.{Image as AnImage};
-ghost use Rattle.awari_places.specs.Faults.{IsLimitFault, IsUnread};
+ghost use Rattle.awari_places.specs.Faults.{IsFaultFrom, IsLimitFault, IsUnread};
 ghost use Rattle.awari_places.specs.Places.{AreFormed, Says};
 ghost use Rattle.awari_places.specs.Runs.{IsEntryAt};
 
@@ -115,7 +114,7 @@ fn read_level<F: Folder>(alloc: Global, folder: &mut F, level: u8) -> Result<Ima
     ensures number { IfOk result (λ image. image.level ≡ level) }
     ensures sized { IfOk result (λ image. length image.entries ≡ size_of level) }
     ensures same { Unchanged (F.state folder.old) (F.state folder.new) }
-    ensures fault { (name : Option (List ℕ)) → (F.state folder.old).stands level ≡ Some name → IfErr result (λ fault. IsLimitFault level name fault ⊎ Names level fault) }
+    ensures fault { (name : Option (List ℕ)) → (F.state folder.old).stands level ≡ Some name → IfErr result (λ fault. IsLimitFault level name fault ⊎ IsFaultFrom level 0 (Some name) fault) }
 {
     let limit = match limit_in_header(folder, level) {
         Ok(limit) => limit,
@@ -138,7 +137,7 @@ fn read_entries<F: Folder>(alloc: Global, folder: &mut F, level: u8) -> Result<E
         → IfOk result (λ entries. IsSomeAnd (slice_get images level) (λ image. entries ≡ take (size_of level) image.entries)) }
     ensures sized { IfOk result (λ entries. length entries ≡ size_of level) }
     ensures same { Unchanged (F.state folder.old) (F.state folder.new) }
-    ensures named { IfErr result (Names level) }
+    ensures fault { IfErr result (IsFaultFrom level 0 ((F.state folder.old).stands level)) }
 {
     let boards = size(level);
     let Ok(mut entries) = Entries::with_capacity(alloc, boards as usize) else {

@@ -23,3 +23,9 @@ loop-level-preserved g c =
 pub returns-clause-said : goal.returns-clause-said
 returns-clause-said g c = λ images says.
     levels-all _ c.args.levels c.loop-level.level images c.loop-level.read.items says (c.loop-level.invariant.said images says) (omega (arith, c.loop-level-test.false, c.loop-level.auto.level-end))
+
+pub returns-in-Err-clause-fault : goal.returns-in-Err-clause-fault
+returns-in-Err-clause-fault g c = λ names known.
+    let below : c.loop-level.level < c.args.levels = omega (arith, c.loop-level-test.true, c.loop-level.auto.level-end) in
+    let there = c.loop-level.invariant.unchanged.stands c.loop-level.level ∙ known c.loop-level.level in
+    record { level = c.loop-level.level; low = below; due = c.in-Err.ensures.fault (names c.loop-level.level) there }
