@@ -2,3 +2,4 @@ pub mod JudgeLaws
 pub mod MemoLaws
 pub mod PlayLaws
 pub mod PlyLines
+pub mod Knowing

@@ -1,6 +1,6 @@
 //! The command `ask`: the entry of a board.
 
-ghost use Rattle.std.specs.Prelude.{◌≡◌, ◌≤◌, ◌↔◌, true, false, Err, IfOk};
+ghost use Rattle.std.specs.Prelude.{◌≡◌, ◌≤◌, ◌↔◌, true, Err, IfOk};
 ghost use Rattle.std.specs.Io.KnownBytes.{Appends};
 ghost use Rattle.awari_board.specs.BoardFault.{IsFaulty};
 ghost use Rattle.awari_board.specs.declared.text.BoardFault.{BoardFault};
@@ -11,7 +11,7 @@ ghost use Rattle.awari_boards.specs.Asks.{PrintsEntry, shown_entry};
 ghost use Rattle.awari_boards.specs.Known.{IsKnown};
 
 use crate::opening::{OpenedFor, open_level_of};
-use awari_answers::{NoAnswer, Replies, ask_folder, print_bytes, refuse_as, status_of};
+use awari_answers::{Asked, NoAnswer, Replies, ask_folder, print_bytes, refuse_as, status_of};
 use awari_board::Board;
 use awari_folder::Folder;
 use awari_places::entry;
@@ -22,34 +22,8 @@ use std::alloc::Global;
 use std::io::Write;
 use std::thread::Threads;
 
-/// The board that `text` spells, and its entry, as the levels in the folder have it.
-fn look_up_verified<T: Threads + Sync, F: Folder>(
-    rt: &T,
-    alloc: Global,
-    folder: &mut F,
-    text: &[u8],
-) -> Result<(Board, Entry), NoAnswer>
-    ensures entry { IfOk result (λ found. IsKnown false (F.state folder.old).stands text.now found.0 (λ images. found.1 ≡ entry_of images found.0)) }
-    ensures same { Same (F.state folder.old).stands (F.state folder.new).stands }
-    ensures board { (fault : BoardFault) → (result ≡ Err (no_answer.Board fault)) ↔ IsFaulty text.now fault }
-{
-    let asked = ask_folder(rt, alloc, folder, text)?;
-    let entry = asked.shelf.entry(&asked.board)?;
-    Ok((asked.board, entry))
-}
-
-/// The board that `text` spells, and the entry that the files say.
-fn look_up_unverified<F: Folder>(folder: &mut F, text: &[u8]) -> Result<(Board, Entry), NoAnswer>
-    ensures entry { IfOk result (λ found. IsKnown true (F.state folder.old).stands text.now found.0 (λ images. found.1 ≡ entry_of images found.0)) }
-    ensures same { Same (F.state folder.old).stands (F.state folder.new).stands }
-    ensures board { (fault : BoardFault) → (result ≡ Err (no_answer.Board fault)) ↔ IsFaulty text.now fault }
-{
-    let OpenedFor { board, opened } = open_level_of(folder, text, false)?;
-    let entry = entry(folder, opened.levels, &board)?;
-    Ok((board, entry))
-}
-
-/// The board that is asked for, and its entry.
+/// The board that is asked for, and its entry: as right levels in the folder have it, or unverified, as the
+/// files say it.
 fn look_up<T: Threads + Sync, F: Folder>(
     rt: &T,
     alloc: Global,
@@ -58,12 +32,17 @@ fn look_up<T: Threads + Sync, F: Folder>(
 ) -> Result<(Board, Entry), NoAnswer>
     ensures entry { IfOk result (λ found. IsKnown query.entry.unverified (F.state folder.old).stands query.entry.board.now found.0 (λ images. found.1 ≡ entry_of images found.0)) }
     ensures same { Same (F.state folder.old).stands (F.state folder.new).stands }
+    ensures board { (fault : BoardFault) → (result ≡ Err (no_answer.Board fault)) ↔ IsFaulty query.entry.board.now fault }
 {
     let text = query.board.as_bytes();
     if query.unverified {
-        return look_up_unverified(folder, text);
+        let OpenedFor { board, opened } = open_level_of(folder, text, false)?;
+        let entry = entry(folder, opened.levels, &board)?;
+        return Ok((board, entry));
     }
-    look_up_verified(rt, alloc, folder, text)
+    let Asked { board, shelf } = ask_folder(rt, alloc, folder, text)?;
+    let entry = shelf.entry(&board)?;
+    Ok((board, entry))
 }
 
 /// Prints the entry of a board, and says whether the writer took it.

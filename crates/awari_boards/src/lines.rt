@@ -87,78 +87,8 @@ impl fmt::Display for Moves<'_> {
     }
 }
 
-/// The line of play from the board that `text` spells, by the plans of the levels in the folder and
-/// their limit.
-fn line_verified<T: Threads + Sync, F: Folder>(
-    rt: &T,
-    alloc: Global,
-    folder: &mut F,
-    text: &[u8],
-) -> Result<ValuedLine, NoAnswer>
-    ensures same { Same (F.state folder.old).stands (F.state folder.new).stands }
-    ensures line { IfOk result (λ found. IsLineOf false (F.state folder.old).stands text.now found.entry.value found.line.moves.items found.line.outcome) }
-    ensures board { (fault : BoardFault) → (result ≡ Err (no_answer.Board fault)) ↔ IsFaulty text.now fault }
-{
-    let Asked { board, shelf } = ask_folder(rt, alloc, folder, text)?;
-    let line = best_line(alloc, &shelf, board, shelf.limit())?;
-    match shelf.entry(&board) {
-        Ok(entry) => Ok(ValuedLine { entry, line }),
-        Err(_) => unreachable!(),
-    }
-}
-
-/// The line of play from the board that `text` spells, by the plans that the files say.
-fn line_unverified<F: Folder>(
-    alloc: Global,
-    folder: &mut F,
-    text: &[u8],
-) -> Result<ValuedLine, NoAnswer>
-    ensures same { Same (F.state folder.old).stands (F.state folder.new).stands }
-    ensures line { IfOk result (λ found. IsLineOf true (F.state folder.old).stands text.now found.entry.value found.line.moves.items found.line.outcome) }
-    ensures board { (fault : BoardFault) → (result ≡ Err (no_answer.Board fault)) ↔ IsFaulty text.now fault }
-{
-    let OpenedFor { board, opened } = open_level_of(folder, text, true)?;
-    let entry = awari_places::entry(folder, opened.levels, &board)?;
-    let line = awari_places::best_line(alloc, folder, opened, board)?;
-    Ok(ValuedLine { entry, line })
-}
-
-/// The play from the board that `text` spells in which one side holds out, by the levels in the folder.
-fn longest_verified<T: Threads + Sync, F: Folder>(
-    rt: &T,
-    alloc: Global,
-    folder: &mut F,
-    text: &[u8],
-) -> Result<LongestLine, NoAnswer>
-    ensures same { Same (F.state folder.old).stands (F.state folder.new).stands }
-    ensures line { IfOk result (λ found. (board : List ℕ) × IsKnown false (F.state folder.old).stands text.now board (SayLongest board found.entry.value found.entry.dist found.moves.items)) }
-    ensures board { (fault : BoardFault) → (result ≡ Err (no_answer.Board fault)) ↔ IsFaulty text.now fault }
-{
-    let Asked { board, shelf } = ask_folder(rt, alloc, folder, text)?;
-    let moves = longest_line(alloc, &shelf, board)?;
-    match shelf.entry(&board) {
-        Ok(entry) => Ok(LongestLine { entry, moves }),
-        Err(_) => unreachable!(),
-    }
-}
-
-/// The same by what the files say.
-fn longest_unverified<F: Folder>(
-    alloc: Global,
-    folder: &mut F,
-    text: &[u8],
-) -> Result<LongestLine, NoAnswer>
-    ensures same { Same (F.state folder.old).stands (F.state folder.new).stands }
-    ensures line { IfOk result (λ found. (board : List ℕ) × IsKnown true (F.state folder.old).stands text.now board (SayLongest board found.entry.value found.entry.dist found.moves.items)) }
-    ensures board { (fault : BoardFault) → (result ≡ Err (no_answer.Board fault)) ↔ IsFaulty text.now fault }
-{
-    let OpenedFor { board, opened } = open_level_of(folder, text, true)?;
-    let entry = awari_places::entry(folder, opened.levels, &board)?;
-    let moves = awari_places::longest_line(alloc, folder, opened.levels, board)?;
-    Ok(LongestLine { entry, moves })
-}
-
-/// The line of play by the plans of both sides that is asked for.
+/// The line of play by the plans of both sides that is asked for: by right levels in the folder and their
+/// limit, or unverified, by what the files say.
 fn line_of<T: Threads + Sync, F: Folder>(
     rt: &T,
     alloc: Global,
@@ -167,15 +97,24 @@ fn line_of<T: Threads + Sync, F: Folder>(
 ) -> Result<ValuedLine, NoAnswer>
     ensures same { Same (F.state folder.old).stands (F.state folder.new).stands }
     ensures line { IfOk result (λ found. IsLineOf query.entry.unverified (F.state folder.old).stands query.entry.board.now found.entry.value found.line.moves.items found.line.outcome) }
+    ensures board { (fault : BoardFault) → (result ≡ Err (no_answer.Board fault)) ↔ IsFaulty query.entry.board.now fault }
 {
     let text = query.board.as_bytes();
     if query.unverified {
-        return line_unverified(alloc, folder, text);
+        let OpenedFor { board, opened } = open_level_of(folder, text, true)?;
+        let entry = awari_places::entry(folder, opened.levels, &board)?;
+        let line = awari_places::best_line(alloc, folder, opened, board)?;
+        return Ok(ValuedLine { entry, line });
     }
-    line_verified(rt, alloc, folder, text)
+    let Asked { board, shelf } = ask_folder(rt, alloc, folder, text)?;
+    let line = best_line(alloc, &shelf, board, shelf.limit())?;
+    match shelf.entry(&board) {
+        Ok(entry) => Ok(ValuedLine { entry, line }),
+        Err(_) => unreachable!(),
+    }
 }
 
-/// The line of play in which one side holds out that is asked for.
+/// The line of play in which one side holds out that is asked for, likewise.
 fn longest_line_of<T: Threads + Sync, F: Folder>(
     rt: &T,
     alloc: Global,
@@ -184,12 +123,21 @@ fn longest_line_of<T: Threads + Sync, F: Folder>(
 ) -> Result<LongestLine, NoAnswer>
     ensures same { Same (F.state folder.old).stands (F.state folder.new).stands }
     ensures line { IfOk result (λ found. (board : List ℕ) × IsKnown query.entry.unverified (F.state folder.old).stands query.entry.board.now board (SayLongest board found.entry.value found.entry.dist found.moves.items)) }
+    ensures board { (fault : BoardFault) → (result ≡ Err (no_answer.Board fault)) ↔ IsFaulty query.entry.board.now fault }
 {
     let text = query.board.as_bytes();
     if query.unverified {
-        return longest_unverified(alloc, folder, text);
+        let OpenedFor { board, opened } = open_level_of(folder, text, true)?;
+        let entry = awari_places::entry(folder, opened.levels, &board)?;
+        let moves = awari_places::longest_line(alloc, folder, opened.levels, board)?;
+        return Ok(LongestLine { entry, moves });
     }
-    longest_verified(rt, alloc, folder, text)
+    let Asked { board, shelf } = ask_folder(rt, alloc, folder, text)?;
+    let moves = longest_line(alloc, &shelf, board)?;
+    match shelf.entry(&board) {
+        Ok(entry) => Ok(LongestLine { entry, moves }),
+        Err(_) => unreachable!(),
+    }
 }
 
 /// Prints a line of play from the board of this text as a JSON object, and says whether the writer took it.

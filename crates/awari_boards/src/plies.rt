@@ -1,6 +1,6 @@
 //! The command `line` with `--plies`: a line of play ply by ply.
 
-ghost use Rattle.std.specs.Prelude.{◌≡◌, ◌≤◌, ◌↔◌, ◌++◌, ◌∷◌, [], ℕ, List, true, false, Err, IfOk, IfSome, length};
+ghost use Rattle.std.specs.Prelude.{◌≡◌, ◌≤◌, ◌↔◌, ◌++◌, ◌∷◌, [], ℕ, List, true, Err, IfOk, IfSome, length};
 ghost use Rattle.std.specs.Io.KnownBytes.{Appends};
 ghost use Rattle.awari_board.specs.BoardFault.{IsFaulty};
 ghost use Rattle.awari_board.specs.declared.text.BoardFault.{BoardFault};
@@ -21,42 +21,8 @@ use std::alloc::Global;
 use std::io::Write;
 use std::thread::Threads;
 
-/// The plies of the line of play from the board that `text` spells, by the levels in the folder.
-fn plies_verified<T: Threads + Sync, F: Folder>(
-    rt: &T,
-    alloc: Global,
-    folder: &mut F,
-    text: &[u8],
-    longest: bool,
-) -> Result<LinePlies, NoAnswer>
-    ensures same { Same (F.state folder.old).stands (F.state folder.new).stands }
-    ensures plies { IfOk result (λ found. (board : List ℕ) × IsKnown false (F.state folder.old).stands text.now board (λ images. AreLinePlies longest images board found.plies.items found.repeat)) }
-    ensures within { IfOk result (λ found. IfSome found.repeat (λ r. r.again ≤ length found.plies.items)) }
-    ensures board { (fault : BoardFault) → (result ≡ Err (no_answer.Board fault)) ↔ IsFaulty text.now fault }
-{
-    let Asked { board, shelf } = ask_folder(rt, alloc, folder, text)?;
-    let plies = line_plies(alloc, &shelf, board, longest)?;
-    Ok(plies)
-}
-
-/// The same by what the files say.
-fn plies_unverified<F: Folder>(
-    alloc: Global,
-    folder: &mut F,
-    text: &[u8],
-    longest: bool,
-) -> Result<LinePlies, NoAnswer>
-    ensures same { Same (F.state folder.old).stands (F.state folder.new).stands }
-    ensures plies { IfOk result (λ found. (board : List ℕ) × IsKnown true (F.state folder.old).stands text.now board (λ images. AreLinePlies longest images board found.plies.items found.repeat)) }
-    ensures within { IfOk result (λ found. IfSome found.repeat (λ r. r.again ≤ length found.plies.items)) }
-    ensures board { (fault : BoardFault) → (result ≡ Err (no_answer.Board fault)) ↔ IsFaulty text.now fault }
-{
-    let OpenedFor { board, opened } = open_level_of(folder, text, true)?;
-    let plies = awari_places::line_plies(alloc, folder, opened, board, longest)?;
-    Ok(plies)
-}
-
-/// The plies of the line of play that is asked for.
+/// The plies of the line of play that is asked for: by right levels in the folder, or unverified, by what the
+/// files say.
 fn plies_of<T: Threads + Sync, F: Folder>(
     rt: &T,
     alloc: Global,
@@ -66,12 +32,17 @@ fn plies_of<T: Threads + Sync, F: Folder>(
     ensures same { Same (F.state folder.old).stands (F.state folder.new).stands }
     ensures plies { IfOk result (λ found. (board : List ℕ) × IsKnown query.entry.unverified (F.state folder.old).stands query.entry.board.now board (λ images. AreLinePlies query.entry.longest images board found.plies.items found.repeat)) }
     ensures within { IfOk result (λ found. IfSome found.repeat (λ r. r.again ≤ length found.plies.items)) }
+    ensures board { (fault : BoardFault) → (result ≡ Err (no_answer.Board fault)) ↔ IsFaulty query.entry.board.now fault }
 {
     let text = query.board.as_bytes();
     if query.unverified {
-        return plies_unverified(alloc, folder, text, query.longest);
+        let OpenedFor { board, opened } = open_level_of(folder, text, true)?;
+        let plies = awari_places::line_plies(alloc, folder, opened, board, query.longest)?;
+        return Ok(plies);
     }
-    plies_verified(rt, alloc, folder, text, query.longest)
+    let Asked { board, shelf } = ask_folder(rt, alloc, folder, text)?;
+    let plies = line_plies(alloc, &shelf, board, query.longest)?;
+    Ok(plies)
 }
 
 /// Prints a ply, and says whether the writer took it.

@@ -1,6 +1,6 @@
 //! The command `moves`: what each legal move of a board is worth.
 
-ghost use Rattle.std.specs.Prelude.{◌≡◌, ◌≤◌, ◌↔◌, true, false, Err, IfOk};
+ghost use Rattle.std.specs.Prelude.{◌≡◌, ◌≤◌, ◌↔◌, true, Err, IfOk};
 ghost use Rattle.std.specs.Io.KnownBytes.{Appends};
 ghost use Rattle.awari_board.specs.BoardFault.{IsFaulty};
 ghost use Rattle.awari_board.specs.declared.text.BoardFault.{BoardFault};
@@ -11,7 +11,7 @@ ghost use Rattle.awari_boards.specs.Known.{IsKnown};
 ghost use Rattle.awari_boards.specs.Worths.{PrintsWorths, shown_worths};
 
 use crate::opening::{OpenedFor, open_level_of};
-use awari_answers::{NoAnswer, Replies, ask_folder, print_bytes, refuse_as, status_of};
+use awari_answers::{Asked, NoAnswer, Replies, ask_folder, print_bytes, refuse_as, status_of};
 use awari_board::Board;
 use awari_folder::Folder;
 use awari_play::{Weighed, weigh};
@@ -21,38 +21,8 @@ use std::alloc::Global;
 use std::io::Write;
 use std::thread::Threads;
 
-/// The board that is asked for, and what it and each of its legal moves are worth, by the levels in the
-/// folder.
-fn weigh_verified<T: Threads + Sync, F: Folder>(
-    rt: &T,
-    alloc: Global,
-    folder: &mut F,
-    query: MovesQuery<'_>,
-) -> Result<(Board, Weighed), NoAnswer>
-    ensures weighed { IfOk result (λ found. IsKnown false (F.state folder.old).stands query.entry.board.now found.0 (λ images. IsWeighed query.entry.replies images found.0 found.1)) }
-    ensures same { Same (F.state folder.old).stands (F.state folder.new).stands }
-    ensures board { (fault : BoardFault) → (result ≡ Err (no_answer.Board fault)) ↔ IsFaulty query.entry.board.now fault }
-{
-    let asked = ask_folder(rt, alloc, folder, query.board.as_bytes())?;
-    let weighed = weigh(&asked.shelf, &asked.board, query.replies)?;
-    Ok((asked.board, weighed))
-}
-
-/// The same by what the files say.
-fn weigh_unverified<F: Folder>(
-    folder: &mut F,
-    query: MovesQuery<'_>,
-) -> Result<(Board, Weighed), NoAnswer>
-    ensures weighed { IfOk result (λ found. IsKnown true (F.state folder.old).stands query.entry.board.now found.0 (λ images. IsWeighed query.entry.replies images found.0 found.1)) }
-    ensures same { Same (F.state folder.old).stands (F.state folder.new).stands }
-    ensures board { (fault : BoardFault) → (result ≡ Err (no_answer.Board fault)) ↔ IsFaulty query.entry.board.now fault }
-{
-    let OpenedFor { board, opened } = open_level_of(folder, query.board.as_bytes(), false)?;
-    let weighed = awari_places::weigh(folder, opened.levels, &board, query.replies)?;
-    Ok((board, weighed))
-}
-
-/// The board that is asked for, and what it and each of its legal moves are worth.
+/// The board that is asked for, and what it and each of its legal moves are worth: by right levels in the
+/// folder, or unverified, by what the files say.
 fn weigh_board<T: Threads + Sync, F: Folder>(
     rt: &T,
     alloc: Global,
@@ -61,11 +31,17 @@ fn weigh_board<T: Threads + Sync, F: Folder>(
 ) -> Result<(Board, Weighed), NoAnswer>
     ensures weighed { IfOk result (λ found. IsKnown query.entry.unverified (F.state folder.old).stands query.entry.board.now found.0 (λ images. IsWeighed query.entry.replies images found.0 found.1)) }
     ensures same { Same (F.state folder.old).stands (F.state folder.new).stands }
+    ensures board { (fault : BoardFault) → (result ≡ Err (no_answer.Board fault)) ↔ IsFaulty query.entry.board.now fault }
 {
+    let text = query.board.as_bytes();
     if query.unverified {
-        return weigh_unverified(folder, query);
+        let OpenedFor { board, opened } = open_level_of(folder, text, false)?;
+        let weighed = awari_places::weigh(folder, opened.levels, &board, query.replies)?;
+        return Ok((board, weighed));
     }
-    weigh_verified(rt, alloc, folder, query)
+    let Asked { board, shelf } = ask_folder(rt, alloc, folder, text)?;
+    let weighed = weigh(&shelf, &board, query.replies)?;
+    Ok((board, weighed))
 }
 
 /// Prints what the moves of a board are worth, and says whether the writer took it.

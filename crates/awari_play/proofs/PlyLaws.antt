@@ -150,4 +150,3 @@ pub repeat_within : (even : Bool) (board : List ℕ) (plies : List Ply) (repeat 
 repeat_within even board plies None h = tt
 repeat_within true board plies (Some r) h = let len = boards_len board plies in omega (arith, h.within, len)
 repeat_within false board plies (Some r) h = absurd (cc h)
-

@@ -1,9 +1,12 @@
-//! Plans by the values and distances of a table, and play by the plans of a shelf.
+//! Plans by the values and distances of a table, and play by the plans of a table.
 //!
-//! [`best_line`] plays both sides up to the outcome, [`move_worths`] says what each legal move is
-//! worth, and [`replies_to`] what it leaves to the opponent. [`longest_line`] lets the losing side hold
-//! out, and [`line_plies`] tells a line ply by ply. [`planned_image`] gives a level its plans, and
-//! [`least`] brings its distances down to the least ones first. None of it needs what builds a level.
+//! [`best_line`] plays both sides up to the outcome, and [`move_worths`] says what each legal move is worth.
+//! [`weigh`] also says what replies a move leaves. [`longest_line`] lets the losing side hold out, and
+//! [`line_plies`] tells a line ply by ply. [`planned_image`] gives a level its plans, and [`least`] brings its
+//! distances down to the least ones first. None of it needs what builds a level.
+//!
+//! These go by a shelf. By any other [`Table`], whose boards may be refused, go [`best_line_by`],
+//! [`told_plies`] and [`weigh_by`]: those of a shelf are these, with no refusal.
 //!
 //! The moves of a line and its outcome, as a test expects them, in
 //! `crates/awari_owner_tests/src/best_lines.rt`:

@@ -23,6 +23,7 @@ pub trait Table {
         ensures keeps { (saying).keeps self.old self.new }
         ensures fault { IfErr result ((saying).refuses self.old board.now) };
 
+    // What a look-up leaves as it was.
     ghost lasting: { IsLasting saying };
 }
 

@@ -1,12 +1,15 @@
-use Rattle.std.proofs.Common.{◌≡◌, ℕ, Bool, true, false, IfOk, List, sym, subst}
+use Rattle.std.proofs.Common.{◌≡◌, refl, subst}
+use Rattle.awari_answers.specs.Asked.{IsAsked}
+use Rattle.awari_places.proofs.Reading.{still_says}
+use Rattle.awari_boards.specs.Known.{IsOpened}
+use Rattle.awari_boards.proofs.Knowing.{known_right, known_said}
 use Rattle.awari_table.specs.Images.{entry_of}
-use Rattle.awari_boards.specs.Known.{IsKnown}
 use Rattle.awari_boards.proofs.asks.look_up.Goals as goal
 
 pub returns-then-query-clause-entry : goal.returns-then-query-clause-entry
-returns-then-query-clause-entry g c = subst (λ (u : Bool). IfOk c.look_up_unverified.result (λ found. IsKnown u (g.F.Folder.state c.args.folder.now).stands c.args.query.board.now found.0 (λ images. found.1 ≡ entry_of images found.0))) (sym c.if-query.true)
-    (subst (λ (t : List ℕ). IfOk c.look_up_unverified.result (λ found. IsKnown true (g.F.Folder.state c.args.folder.now).stands t found.0 (λ images. found.1 ≡ entry_of images found.0))) c.as_bytes-text.ensures.value c.look_up_unverified.ensures.entry)
+returns-then-query-clause-entry g c =
+    known_said _ (g.F.Folder.state c.args.folder.now).stands _ c.in_ok-board.field-0.board c.in_ok-board.field-0.opened (λ images. c.in_ok-entry.entry ≡ entry_of images c.in_ok-board.field-0.board) c.if-query.true (subst (λ text. IsOpened (g.F.Folder.state c.args.folder.now).stands text c.in_ok-board.field-0.board c.in_ok-board.field-0.opened) c.as_bytes-text.ensures.value c.in_ok-board.ensures.opened) c.in_ok-board.ensures.known (λ images says. c.in_ok-entry.ensures.entry images (still_says _ _ _ images c.open_level_of.ensures.same says))
 
 pub returns-clause-entry : goal.returns-clause-entry
-returns-clause-entry g c = subst (λ (u : Bool). IfOk c.look_up_verified.result (λ found. IsKnown u (g.F.Folder.state c.args.folder.now).stands c.args.query.board.now found.0 (λ images. found.1 ≡ entry_of images found.0))) (sym c.if-query.false)
-    (subst (λ (t : List ℕ). IfOk c.look_up_verified.result (λ found. IsKnown false (g.F.Folder.state c.args.folder.now).stands t found.0 (λ images. found.1 ≡ entry_of images found.0))) c.as_bytes-text.ensures.value c.look_up_verified.ensures.entry)
+returns-clause-entry g c =
+    known_right _ (g.F.Folder.state c.args.folder.now).stands _ c.in_ok-board-2.field-0.board c.in_ok-board-2.field-0.shelf (λ images. c.in_ok-entry-2.entry ≡ entry_of images c.in_ok-board-2.field-0.board) c.if-query.false (subst (λ text. IsAsked (g.F.Folder.state c.args.folder.now).stands text c.in_ok-board-2.field-0.shelf c.in_ok-board-2.field-0.board) c.as_bytes-text.ensures.value c.in_ok-board-2.ensures.asked) (c.in_ok-entry-2.ensures.known.0 refl) c.in_ok-entry-2.ensures.entry

@@ -1,12 +1,15 @@
-use Rattle.std.proofs.Common.{ℕ, Bool, true, false, IfOk, List, sym, subst}
+use Rattle.std.proofs.Common.{subst}
+use Rattle.awari_answers.specs.Asked.{IsAsked}
+use Rattle.awari_places.proofs.Reading.{still_says}
+use Rattle.awari_boards.specs.Known.{IsOpened}
+use Rattle.awari_boards.proofs.Knowing.{known_right, known_said, limit_said}
 use Rattle.awari_play.specs.Plies.{AreLinePlies}
-use Rattle.awari_boards.specs.Known.{IsKnown}
 use Rattle.awari_boards.proofs.plies.plies_of.Goals as goal
 
 pub returns-then-query-clause-plies : goal.returns-then-query-clause-plies
-returns-then-query-clause-plies g c = subst (λ (u : Bool). IfOk c.plies_unverified.result (λ found. (board : List ℕ) × IsKnown u (g.F.Folder.state c.args.folder.now).stands c.args.query.board.now board (λ images. AreLinePlies c.args.query.longest images board found.plies.items found.repeat))) (sym c.if-query.true)
-    (subst (λ (t : List ℕ). IfOk c.plies_unverified.result (λ found. (board : List ℕ) × IsKnown true (g.F.Folder.state c.args.folder.now).stands t board (λ images. AreLinePlies c.args.query.longest images board found.plies.items found.repeat))) c.as_bytes-text.ensures.value c.plies_unverified.ensures.plies)
+returns-then-query-clause-plies g c =
+    (c.in_ok-board.field-0.board, known_said _ (g.F.Folder.state c.args.folder.now).stands _ c.in_ok-board.field-0.board c.in_ok-board.field-0.opened (λ images. AreLinePlies c.args.query.longest images c.in_ok-board.field-0.board c.in_ok-plies.plies.plies.items c.in_ok-plies.plies.repeat) c.if-query.true (subst (λ text. IsOpened (g.F.Folder.state c.args.folder.now).stands text c.in_ok-board.field-0.board c.in_ok-board.field-0.opened) c.as_bytes-text.ensures.value c.in_ok-board.ensures.opened) c.in_ok-board.ensures.known (λ images says. c.in_ok-plies.ensures.plies images (still_says _ _ _ images c.open_level_of.ensures.same says) (limit_said _ _ _ _ images c.in_ok-board.ensures.opened says)))
 
 pub returns-clause-plies : goal.returns-clause-plies
-returns-clause-plies g c = subst (λ (u : Bool). IfOk c.plies_verified.result (λ found. (board : List ℕ) × IsKnown u (g.F.Folder.state c.args.folder.now).stands c.args.query.board.now board (λ images. AreLinePlies c.args.query.longest images board found.plies.items found.repeat))) (sym c.if-query.false)
-    (subst (λ (t : List ℕ). IfOk c.plies_verified.result (λ found. (board : List ℕ) × IsKnown false (g.F.Folder.state c.args.folder.now).stands t board (λ images. AreLinePlies c.args.query.longest images board found.plies.items found.repeat))) c.as_bytes-text.ensures.value c.plies_verified.ensures.plies)
+returns-clause-plies g c =
+    (c.in_ok-board-2.field-0.board, known_right _ (g.F.Folder.state c.args.folder.now).stands _ c.in_ok-board-2.field-0.board c.in_ok-board-2.field-0.shelf (λ images. AreLinePlies c.args.query.longest images c.in_ok-board-2.field-0.board c.in_ok-plies-2.plies.plies.items c.in_ok-plies-2.plies.repeat) c.if-query.false (subst (λ text. IsAsked (g.F.Folder.state c.args.folder.now).stands text c.in_ok-board-2.field-0.shelf c.in_ok-board-2.field-0.board) c.as_bytes-text.ensures.value c.in_ok-board-2.ensures.asked) c.in_ok-plies-2.ensures.known c.in_ok-plies-2.ensures.plies)

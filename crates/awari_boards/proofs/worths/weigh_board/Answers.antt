@@ -1,10 +1,15 @@
-use Rattle.std.proofs.Common.{Bool, IfOk, sym, subst}
+use Rattle.std.proofs.Common.{refl, subst}
+use Rattle.awari_answers.specs.Asked.{IsAsked}
+use Rattle.awari_places.proofs.Reading.{still_says}
+use Rattle.awari_boards.specs.Known.{IsOpened}
+use Rattle.awari_boards.proofs.Knowing.{known_right, known_said}
 use Rattle.awari_play.specs.Worths.{IsWeighed}
-use Rattle.awari_boards.specs.Known.{IsKnown}
 use Rattle.awari_boards.proofs.worths.weigh_board.Goals as goal
 
 pub returns-then-query-clause-weighed : goal.returns-then-query-clause-weighed
-returns-then-query-clause-weighed g c = subst (λ (u : Bool). IfOk c.weigh_unverified.result (λ found. IsKnown u (g.F.Folder.state c.args.folder.now).stands c.args.query.board.now found.0 (λ images. IsWeighed c.args.query.replies images found.0 found.1))) (sym c.if-query.true) c.weigh_unverified.ensures.weighed
+returns-then-query-clause-weighed g c =
+    known_said _ (g.F.Folder.state c.args.folder.now).stands _ c.in_ok-board.field-0.board c.in_ok-board.field-0.opened (λ images. IsWeighed c.args.query.replies images c.in_ok-board.field-0.board c.in_ok-weighed.weighed) c.if-query.true (subst (λ text. IsOpened (g.F.Folder.state c.args.folder.now).stands text c.in_ok-board.field-0.board c.in_ok-board.field-0.opened) c.as_bytes-text.ensures.value c.in_ok-board.ensures.opened) c.in_ok-board.ensures.known (λ images says. c.in_ok-weighed.ensures.weighed images (still_says _ _ _ images c.open_level_of.ensures.same says))
 
 pub returns-clause-weighed : goal.returns-clause-weighed
-returns-clause-weighed g c = subst (λ (u : Bool). IfOk c.weigh_verified.result (λ found. IsKnown u (g.F.Folder.state c.args.folder.now).stands c.args.query.board.now found.0 (λ images. IsWeighed c.args.query.replies images found.0 found.1))) (sym c.if-query.false) c.weigh_verified.ensures.weighed
+returns-clause-weighed g c =
+    known_right _ (g.F.Folder.state c.args.folder.now).stands _ c.in_ok-board-2.field-0.board c.in_ok-board-2.field-0.shelf (λ images. IsWeighed c.args.query.replies images c.in_ok-board-2.field-0.board c.in_ok-weighed-2.weighed) c.if-query.false (subst (λ text. IsAsked (g.F.Folder.state c.args.folder.now).stands text c.in_ok-board-2.field-0.shelf c.in_ok-board-2.field-0.board) c.as_bytes-text.ensures.value c.in_ok-board-2.ensures.asked) (c.in_ok-weighed-2.ensures.known.0 refl) c.in_ok-weighed-2.ensures.weighed
