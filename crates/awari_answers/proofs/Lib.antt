@@ -1,4 +1,5 @@
 pub mod LevelLineLaws
 mod LineCounts
 pub mod PrintLaws
+pub mod RefusalLaws
 pub mod Requests

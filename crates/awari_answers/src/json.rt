@@ -1,23 +1,23 @@
 //! Refusals as text, as a row of CSV, and as JSON.
 
-ghost use Rattle.std.specs.Prelude.{◌≡◌, ◌++◌, take};
-ghost use Rattle.awari_answers.specs.Refusals.{request_text};
+ghost use Rattle.std.specs.Prelude.{◌≡◌, ◌≤◌, ◌∷◌, [], ◌++◌, true, length, take};
+ghost use Rattle.std.specs.Io.KnownBytes.{Appends};
+ghost use Rattle.std.specs.Str.{IsUtf8};
+ghost use Rattle.awari_answers.specs.Refusals.{level_word, refusal_line, request_text};
+ghost use Rattle.awari_members.specs.Json.{json_string};
 
 use crate::asked::NoAnswer;
-use crate::printing::{Refused, print};
-use crate::remarks::{Printed, Reason, Replies};
-use arrayvec::{ArrayString, ArrayVec};
-use awari_members::{Form, form_of};
-use awari_shown::refusal_json;
-use std::fmt::{self, Write as _};
+use crate::printing::print;
+use crate::refusals::{Field, Fields, Refusal, Told, Value, refusal_of};
+use crate::remarks::{Reason, Replies};
+use arrayvec::ArrayVec;
+use awari_members::{AnswerText, Form, form_of, push_string};
+use awari_streams::{TextLine, numbered};
 use std::io::Write;
-use std::str;
+use std::{fmt, str};
 
 /// How many bytes of a request are told with its refusal, as in the service.
 const REQUEST_ROOM: usize = 200;
-
-/// More fields than a refusal has.
-const MOST_FIELDS: usize = 4;
 
 /// Writes a refusal, as JSON if `json` says so, and gives the status 1. The request, a command and a word, is
 /// told with JSON alone.
@@ -30,7 +30,13 @@ pub fn refuse_as<W: Replies>(
 ) -> u8
     ensures { result ≡ 1 }
 {
-    refuse_in(writer, form_of(json, false), command, word, fault)
+    refuse_in(
+        writer,
+        form_of(json, false),
+        command,
+        word.as_bytes(),
+        fault,
+    )
 }
 
 /// Writes a refusal of a command about a level, or about all, in this form, and gives the status 1.
@@ -43,12 +49,18 @@ pub fn refuse_level<W: Replies>(
 ) -> u8
     ensures { result ≡ 1 }
 {
-    let mut word = ArrayString::<3>::new();
-    if let Some(level) = level {
-        // There is room for any level.
-        let _ = write!(word, "{level}");
+    let word = word_of(level);
+    refuse_in(writer, form, command, word.as_slice(), fault)
+}
+
+/// The word of a request about a level, or about all.
+fn word_of(level: Option<u8>) -> TextLine
+    ensures { result.items ≡ level_word level }
+{
+    match level {
+        Some(level) => numbered(b"", level),
+        None => TextLine::new(),
     }
-    refuse_in(writer, form, command, word.as_str(), fault)
 }
 
 /// Writes a refusal in this form, and gives the status 1, whether the writer took that or not. What the refusal
@@ -57,29 +69,50 @@ fn refuse_in<W: Replies>(
     writer: &mut W,
     form: Form,
     command: &str,
-    word: &str,
+    word: &[u8],
     fault: NoAnswer,
 ) -> u8
     ensures { result ≡ 1 }
 {
-    match form {
-        Form::Text => print(writer, &Refused(fault)),
-        Form::Csv => print(writer, &Row(fault)),
-        Form::Json => print_json(writer, command, word, fault),
-    };
+    print_refusal(writer, form, command, word, fault);
     writer.remark(&Reason(fault));
     1
 }
 
-/// Writes a refusal as JSON in one line, with the request, which is a command and a word. An empty word is
-/// left out. A request is cut at 200 bytes. True if the writer took that.
-fn print_json<W: Write>(writer: &mut W, command: &str, word: &str, fault: NoAnswer) -> bool {
-    let request = request_of(command.as_bytes(), word.as_bytes());
-    let line = refusal_json(request.as_slice(), fault.number(), fault.name());
-    let line = str::from_utf8(line.as_slice()).unwrap_or("");
-    let members = line.strip_suffix("}\n").unwrap_or(line);
-    let fields = Members(fault);
-    print(writer, &format_args!("{members}{fields}}}"))
+/// Writes a refusal in this form. JSON has the request, which is a command and a word, without a word that is
+/// empty, and cut at 200 bytes. True if the writer took that.
+fn print_refusal<W: Write>(
+    writer: &mut W,
+    form: Form,
+    command: &str,
+    word: &[u8],
+    fault: NoAnswer,
+) -> bool
+    ensures { result ≡ true → Appends (W.contents writer.old) (W.contents writer.new) (refusal_line form (take 200 (request_text command.now word.now)) fault ++ 10 ∷ []) }
+{
+    let request = request_of(command.as_bytes(), word);
+    let string = string_of(request.as_slice());
+    let Ok(request) = str::from_utf8(string.as_slice()) else {
+        // A string of JSON is ASCII.
+        unreachable!()
+    };
+    let shown = Shown {
+        refusal: refusal_of(fault),
+        form,
+        request,
+    };
+    print(writer, &shown)
+}
+
+/// A request as a string of JSON, which is text.
+fn string_of(request: &[u8]) -> AnswerText
+    requires { length request.now ≤ REQUEST_ROOM }
+    ensures items { result.items ≡ json_string request.now }
+    ensures text { IsUtf8 result.items }
+{
+    let mut string = AnswerText::new();
+    push_string(&mut string, request);
+    string
 }
 
 /// A request of a command and a word, as it is told with its refusal.
@@ -104,70 +137,139 @@ fn push_cut(text: &mut ArrayVec<u8, REQUEST_ROOM>, bytes: &[u8])
     let _ = text.try_extend_from_slice(&bytes[..count]);
 }
 
-/// A refusal as a row of CSV: its words, with commas for what stands between them.
+/// A refusal in a form, with the request as a string of JSON, which JSON alone has.
 #[derive(Clone, Copy)]
-struct Row(NoAnswer);
+struct Shown<'a> {
+    refusal: Refusal,
+    form: Form,
+    request: &'a str,
+}
 
-impl fmt::Display for Row {
+impl fmt::Display for Shown<'_> {
+    ghost use Rattle.std.specs.Prelude.{Some};
+    ghost use Rattle.awari_answers.specs.Refusals.{said, shown_text};
+
+    ghost output = { λ shown. Some (shown_text shown.form shown.request.now (said shown.refusal)) };
+
     fn fmt<W: fmt::Write>(&self, f: &mut fmt::Formatter<W>) -> fmt::Result {
-        let printed = Printed::of(&self.0);
-        f.write_str("refused")?;
-        for refusal in printed.refusals() {
-            for word in refusal.split_whitespace() {
-                write!(f, ",{word}")?;
-            }
+        let told = ToldIn(self.refusal.told, self.form);
+        let inside = InsideIn(self.refusal.inside, self.form);
+        let request = self.request;
+        match self.form {
+            Form::Text => write!(f, "refused {told}{inside}"),
+            Form::Csv => write!(f, "refused,{told}{inside}"),
+            Form::Json => write!(f, "{{\"request\":{request},{told}{inside}}}"),
         }
-        Ok(())
     }
 }
 
-/// The fields of a refusal, and the refusals inside it, as members of an object behind others. They are
-/// those that are printed.
+/// The fault inside another in a form, behind it.
 #[derive(Clone, Copy)]
-struct Members(NoAnswer);
+struct InsideIn(Option<Told>, Form);
 
-impl fmt::Display for Members {
+impl fmt::Display for InsideIn {
+    ghost use Rattle.std.specs.Prelude.{Some};
+    ghost use Rattle.awari_answers.specs.Refusals.{inside_said, inside_text};
+
+    ghost output = { λ shown. Some (inside_text shown.1 (inside_said shown.0)) };
+
     fn fmt<W: fmt::Write>(&self, f: &mut fmt::Formatter<W>) -> fmt::Result {
-        let printed = Printed::of(&self.0);
-        for (place, refusal) in printed.refusals().enumerate() {
-            let refusal = Member {
-                refusal,
-                is_inside: place > 0,
-            };
-            write!(f, "{refusal}")?;
-        }
-        for _inside in printed.refusals().skip(1) {
-            f.write_str("}")?;
-        }
-        Ok(())
-    }
-}
-
-/// The members of a refusal as it is printed. One inside another is an object, which is left open.
-#[derive(Clone, Copy)]
-struct Member<'a> {
-    refusal: &'a str,
-    is_inside: bool,
-}
-
-impl fmt::Display for Member<'_> {
-    fn fmt<W: fmt::Write>(&self, f: &mut fmt::Formatter<W>) -> fmt::Result {
-        let mut words = self.refusal.split_whitespace();
-        let (Some(number), Some(name)) = (words.next(), words.next()) else {
+        let InsideIn(inside, form) = *self;
+        let Some(told) = inside else {
             return Ok(());
         };
-        if self.is_inside {
-            write!(f, ",\"inside\":{{\"refused\":{number},\"name\":\"{name}\"")?;
+        let told = ToldIn(told, form);
+        match form {
+            Form::Text => write!(f, ": {told}"),
+            Form::Csv => write!(f, ",{told}"),
+            Form::Json => write!(f, ",\"inside\":{{{told}}}"),
         }
-        for _field in 0..MOST_FIELDS {
-            let (Some(field), Some(value)) = (words.next(), words.next()) else {
-                return Ok(());
-            };
-            match value.parse::<u64>() {
-                Ok(number) => write!(f, ",\"{field}\":{number}")?,
-                Err(_) => write!(f, ",\"{field}\":\"{value}\"")?,
+    }
+}
+
+/// What is told of a fault in a form.
+#[derive(Clone, Copy)]
+struct ToldIn(Told, Form);
+
+impl fmt::Display for ToldIn {
+    ghost use Rattle.std.specs.Prelude.{Some};
+    ghost use Rattle.awari_answers.specs.Refusals.{told_said, words_text};
+
+    ghost output = { λ shown. Some (words_text shown.1 (told_said shown.0)) };
+
+    fn fmt<W: fmt::Write>(&self, f: &mut fmt::Formatter<W>) -> fmt::Result {
+        let ToldIn(told, form) = *self;
+        let Told { number, name, .. } = told;
+        let fields = FieldsIn(told.fields, form);
+        match form {
+            Form::Text => write!(f, "{number} {name}{fields}"),
+            Form::Csv => write!(f, "{number},{name}{fields}"),
+            Form::Json => write!(f, "\"refused\":{number},\"name\":\"{name}\"{fields}"),
+        }
+    }
+}
+
+/// Fields in a form, each behind a mark.
+#[derive(Clone, Copy)]
+struct FieldsIn(Fields, Form);
+
+impl fmt::Display for FieldsIn {
+    ghost use Rattle.std.specs.Prelude.{Some};
+    ghost use Rattle.awari_answers.specs.Refusals.{fields_said, fields_text};
+
+    ghost output = { λ shown. Some (fields_text shown.1 (fields_said shown.0)) };
+
+    fn fmt<W: fmt::Write>(&self, f: &mut fmt::Formatter<W>) -> fmt::Result {
+        let FieldsIn(fields, form) = *self;
+        match fields {
+            Fields::None => Ok(()),
+            Fields::One(field) => write!(f, "{}", FieldIn(field, form)),
+            Fields::Two(first, second) => {
+                write!(f, "{}{}", FieldIn(first, form), FieldIn(second, form))
             }
         }
-        Ok(())
+    }
+}
+
+/// A field in a form, behind a mark.
+#[derive(Clone, Copy)]
+struct FieldIn(Field, Form);
+
+impl fmt::Display for FieldIn {
+    ghost use Rattle.std.specs.Prelude.{[], ◌∷◌, Some};
+    ghost use Rattle.awari_answers.specs.Refusals.{field_said, fields_text};
+
+    ghost output = { λ shown. Some (fields_text shown.1 (field_said shown.0 ∷ [])) };
+
+    fn fmt<W: fmt::Write>(&self, f: &mut fmt::Formatter<W>) -> fmt::Result {
+        let FieldIn(Field { name, value }, form) = *self;
+        let value = ValueIn(value, form);
+        match form {
+            Form::Text => write!(f, " {name} {value}"),
+            Form::Csv => write!(f, ",{name},{value}"),
+            Form::Json => write!(f, ",\"{name}\":{value}"),
+        }
+    }
+}
+
+/// A value in a form.
+#[derive(Clone, Copy)]
+struct ValueIn(Value, Form);
+
+impl fmt::Display for ValueIn {
+    ghost use Rattle.std.specs.Prelude.{Some};
+    ghost use Rattle.awari_answers.specs.Refusals.{value_in};
+
+    ghost output = { λ shown. Some (value_in shown.0 shown.1) };
+
+    fn fmt<W: fmt::Write>(&self, f: &mut fmt::Formatter<W>) -> fmt::Result {
+        let ValueIn(value, form) = *self;
+        match value {
+            Value::Number(number) => write!(f, "{number}"),
+            Value::Word(word) => match form {
+                Form::Json => write!(f, "\"{word}\""),
+                Form::Text | Form::Csv => write!(f, "{word}"),
+            },
+        }
     }
 }

@@ -21,6 +21,7 @@ mod hints;
 mod json;
 mod levels;
 mod printing;
+mod refusals;
 mod remarks;
 mod streams;
 mod telling;

@@ -133,11 +133,11 @@ impl Display for Reason {
 
 /// A refusal as it is printed.
 #[derive(Drop)]
-pub(crate) struct Printed(ArrayString<REFUSAL_ROOM>);
+struct Printed(ArrayString<REFUSAL_ROOM>);
 
 impl Printed {
     /// What is printed of a refusal.
-    pub(crate) fn of<T: Display>(fault: &T) -> Printed {
+    fn of<T: Display>(fault: &T) -> Printed {
         let mut text = ArrayString::new();
         // There is room for any refusal.
         let _ = write!(text, "{fault}");
@@ -145,7 +145,7 @@ impl Printed {
     }
 
     /// The refusal, and then those inside it, each up to its colon.
-    pub(crate) fn refusals(&self) -> Split<'_, char> {
+    fn refusals(&self) -> Split<'_, char> {
         self.0.as_str().split(':')
     }
 }
