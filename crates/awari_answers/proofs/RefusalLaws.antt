@@ -6,14 +6,13 @@ use Rattle.std.specs.Str.{IsAscii, IsUtf8}
 use Rattle.std.proofs.lemmas.Bool.Decides.{nat_tests}
 use Rattle.std.proofs.lemmas.Str.{IsAscii-append, IsUtf8-from_ascii}
 use Rattle.std.proofs.lemmas.Str.Ascii.{IsAscii-cons, IsAscii-nil}
-use Rattle.awari_board.specs.declared.moves.MoveFault.TheVariants as move
 use Rattle.awari_file.specs.FileFault.{name_of as file_name_of, number_of as file_number_of}
 use Rattle.awari_folder.specs.FolderFault.{fault_text as folder_fault_text}
 use Rattle.awari_folder.specs.declared.faults.FolderFault.{FolderFault}
 use Rattle.awari_folder.specs.declared.faults.FolderFault.TheVariants as folder
 use Rattle.awari_members.proofs.MemberLaws.{json-line, marked-append}
-use Rattle.awari_members.specs.Json.{hex_digit, is_plain, json_string, member, string_byte}
-use Rattle.awari_members.specs.Members.{Named, line_text, marked, number, text}
+use Rattle.awari_members.specs.Json.{hex_digit, is_plain, json_string, string_byte}
+use Rattle.awari_members.specs.Members.{line_text, marked, number, text}
 use Rattle.awari_members.specs.declared.forms.Form.{Form}
 use Rattle.awari_members.specs.declared.forms.Form.TheVariants.{Text, Csv, Json}
 use Rattle.awari_play.specs.declared.lines.LineFault.TheVariants as line
@@ -23,7 +22,8 @@ use Rattle.awari_verify.specs.VerifyFault.{fault_text as verify_fault_text}
 use Rattle.awari_verify.specs.declared.verdicts.VerifyFault.{VerifyFault}
 use Rattle.awari_verify.specs.declared.verdicts.VerifyFault.TheVariants as verify
 use Rattle.awari_answers.specs.Asked.{no_answer_text}
-use Rattle.awari_answers.specs.Refusals.{Said, Words, inside_members, inside_of, inside_text, members_of, refusal_line, said_of, shown_text, told_of, words_of_verify, words_text}
+use Rattle.awari_answers.specs.Parts.{Said, inside_text, said_of, shown_text, words_text}
+use Rattle.awari_answers.specs.Refusals.{Words, inside_members, inside_of, members_of, refusal_line, told_of, words_of_verify, row_inside, row_of}
 use Rattle.awari_answers.specs.declared.asked.NoAnswer.{NoAnswer}
 use Rattle.awari_answers.specs.declared.asked.NoAnswer.TheVariants.{Board, Move, MoveAt, Folder, NotYet, Line, Memory, NoRank, Overflow, Span, Column}
 
@@ -128,10 +128,15 @@ object_is request w inside =
         marked-append Json (codes ",") (number (codes "refused") w.number) (text (codes "name") w.name ∷ w.fields) (inside_members inside)
         ∙ ap (λ (t : List ℕ). marked Json (codes ",") (members_of w) ++ t) (inside_is inside)
 
+-- the fault inside another goes on with the row
+row_is : (inside : Option Words) → inside_text Csv inside ≡ row_inside inside
+row_is None = refl
+row_is (Some w) = refl
+
 -- the parts that are written are the line
 pub shown_is : (form : Form) (request : List ℕ) (fault : NoAnswer) → shown_text form (json_string request) (said_of fault) ≡ refusal_line form request fault
 shown_is Text request fault = ap (λ (t : List ℕ). codes "refused " ++ t) (plain_is fault)
-shown_is Csv request fault = refl
+shown_is Csv request fault = ap (λ (t : List ℕ). codes "refused," ++ (row_of (told_of fault) ++ t)) (row_is (inside_of fault))
 shown_is Json request fault = object_is request (told_of fault) (inside_of fault)
 
 -- an object by its parts

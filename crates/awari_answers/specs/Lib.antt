@@ -1,4 +1,5 @@
 pub mod Asked
 pub mod Broken
 pub mod LevelLines
+pub mod Parts
 pub mod Refusals

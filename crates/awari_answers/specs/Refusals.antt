@@ -8,7 +8,7 @@ use Rattle.awari_file.specs.FileFault.{name_of as file_name_of, number_of as fil
 use Rattle.awari_folder.specs.FolderFault.{name_of as folder_name_of, number_of as folder_number_of}
 use Rattle.awari_folder.specs.declared.faults.FolderFault.{FolderFault}
 use Rattle.awari_folder.specs.declared.faults.FolderFault.TheVariants as folder
-use Rattle.awari_members.specs.Members.{Named, line_text, marked, number, string, text}
+use Rattle.awari_members.specs.Members.{Named, line_text, number, text}
 use Rattle.awari_members.specs.declared.forms.Form.{Form}
 use Rattle.awari_members.specs.declared.forms.Form.TheVariants.{Text, Csv, Json}
 use Rattle.awari_play.specs.LineFault.{number_of as line_number_of}
@@ -21,13 +21,6 @@ use Rattle.awari_verify.specs.declared.verdicts.VerifyFault.TheVariants as verif
 use Rattle.awari_answers.specs.Asked.{no_answer_text}
 use Rattle.awari_answers.specs.declared.asked.NoAnswer.{NoAnswer}
 use Rattle.awari_answers.specs.declared.asked.NoAnswer.TheVariants.{Board, Move, MoveAt, Folder, NotYet, Line, Memory, NoRank, Overflow, Span, Column}
-use Rattle.awari_answers.specs.declared.refusals.Field.{Field}
-use Rattle.awari_answers.specs.declared.refusals.Fields.{Fields}
-use Rattle.awari_answers.specs.declared.refusals.Fields.TheVariants as listed
-use Rattle.awari_answers.specs.declared.refusals.Refusal.{Refusal}
-use Rattle.awari_answers.specs.declared.refusals.Told.{Told}
-use Rattle.awari_answers.specs.declared.refusals.Value.{Value}
-use Rattle.awari_answers.specs.declared.refusals.Value.TheVariants as value
 
 -- its number, or that of the fault inside it; and its name
 abbrev pub number_of : NoAnswer → ℕ
@@ -63,11 +56,6 @@ pub record Words : Type 0 where
   pub name : List ℕ
   pub fields : List Named
 
--- of a fault, and of the fault inside it
-pub record Said : Type 0 where
-  pub told : Words
-  pub inside : Option Words
-
 -- the level that a folder's fault names
 abbrev pub level_of : FolderFault → List Named
 level_of (folder.Below level) = number (codes "level") level ∷ []
@@ -78,7 +66,7 @@ level_of folder.Memory = []
 level_of (folder.Occupied level) = number (codes "level") level ∷ []
 level_of (folder.Old level) = number (codes "level") level ∷ []
 
--- the fields of each
+-- the fields of a fault
 abbrev pub fields_of : NoAnswer → List Named
 fields_of (Board fault) = []
 fields_of (Move fault) = []
@@ -120,73 +108,29 @@ inside_of fault = None
 abbrev pub told_of : NoAnswer → Words
 told_of fault = record { number = number_of fault; name = name_of fault; fields = fields_of fault }
 
-abbrev pub said_of : NoAnswer → Said
-said_of fault = record { told = told_of fault; inside = inside_of fault }
-
--- the same of what the program keeps of it
-abbrev pub value_in : Value → Form → List ℕ
-value_in (value.Number n) = λ form. decimal n
-value_in (value.Word word) = string word.now
-
-abbrev pub field_said : Field → Named
-field_said f = record { name = f.name.now; value = value_in f.value }
-
-abbrev pub fields_said : Fields → List Named
-fields_said listed.None = []
-fields_said (listed.One f) = field_said f ∷ []
-fields_said (listed.Two f g) = field_said f ∷ field_said g ∷ []
-
-abbrev pub told_said : Told → Words
-told_said t = record { number = t.number; name = t.name.now; fields = fields_said t.fields }
-
-abbrev pub inside_said : Option Told → Option Words
-inside_said None = None
-inside_said (Some t) = Some (told_said t)
-
-abbrev pub said : Refusal → Said
-said r = record { told = told_said r.told; inside = inside_said r.inside }
-
--- a field of a row of CSV: its name and its value, each behind a comma (44)
+-- A row of CSV: a number and a name with a comma (44) between them, and the name and the value of each field behind commas.
 abbrev pub field_in_row : Named → List ℕ
 field_in_row f = 44 ∷ (f.name ++ 44 ∷ f.value Csv)
 
--- fields, each behind a mark
-abbrev pub fields_text : Form → List Named → List ℕ
-fields_text Text members = marked Text (codes " ") members
-fields_text Csv members = flat_map field_in_row members
-fields_text Json members = marked Json (codes ",") members
+abbrev pub row_of : Words → List ℕ
+row_of w = decimal w.number ++ 44 ∷ (w.name ++ flat_map field_in_row w.fields)
 
--- a number, a name and fields
+abbrev pub row_inside : Option Words → List ℕ
+row_inside None = []
+row_inside (Some w) = codes "," ++ row_of w
+
+-- an object has a number, a name, the fields, and the fault inside it as an object
 abbrev pub members_of : Words → List Named
 members_of w = number (codes "refused") w.number ∷ text (codes "name") w.name ∷ w.fields
 
-abbrev pub words_text : Form → Words → List ℕ
-words_text Text w = decimal w.number ++ 32 ∷ (w.name ++ fields_text Text w.fields)
-words_text Csv w = decimal w.number ++ 44 ∷ (w.name ++ fields_text Csv w.fields)
-words_text Json w = marked Json [] (members_of w)
-
--- the fault inside another, behind it
-abbrev pub inside_text : Form → Option Words → List ℕ
-inside_text form None = []
-inside_text Text (Some w) = codes ": " ++ words_text Text w
-inside_text Csv (Some w) = codes "," ++ words_text Csv w
-inside_text Json (Some w) = codes ",\"inside\":{" ++ (words_text Json w ++ codes "}")
-
--- the fault inside another, as a member of its object
 abbrev pub inside_members : Option Words → List Named
 inside_members None = []
 inside_members (Some w) = record { name = codes "inside"; value = λ form. line_text Json (members_of w) } ∷ []
 
--- Its text by its parts: the request stands there as a string of JSON. No public contract goes by it.
-abbrev pub shown_text : Form → List ℕ → Said → List ℕ
-shown_text Text request r = codes "refused " ++ (words_text Text r.told ++ inside_text Text r.inside)
-shown_text Csv request r = codes "refused," ++ (words_text Csv r.told ++ inside_text Csv r.inside)
-shown_text Json request r = codes "{\"request\":" ++ (request ++ (codes "," ++ (words_text Json r.told ++ (inside_text Json r.inside ++ codes "}"))))
-
 -- The line of a refusal: the fault as it is printed; its words with commas between them; or an object of the request and of the fault.
 abbrev pub refusal_line : Form → List ℕ → NoAnswer → List ℕ
 refusal_line Text request fault = codes "refused " ++ no_answer_text fault
-refusal_line Csv request fault = codes "refused," ++ (words_text Csv (told_of fault) ++ inside_text Csv (inside_of fault))
+refusal_line Csv request fault = codes "refused," ++ (row_of (told_of fault) ++ row_inside (inside_of fault))
 refusal_line Json request fault = line_text Json (request_member request ∷ (members_of (told_of fault) ++ inside_members (inside_of fault)))
 
 -- the word of a request about a level, or about all

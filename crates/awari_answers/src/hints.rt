@@ -1,14 +1,16 @@
 //! What the error stream says of a level that breaks a rule: which board does, where its entry stands, and
 //! what the rule asks. It is said beside a refusal, and nothing is promised of it.
 
-ghost use Rattle.std.specs.Prelude.{◌≡◌, ◌≢◌, ◌≤◌, ◌*◌, ◌^◌, ◌↔◌, IsSome, IfSome, min, sum};
+ghost use Rattle.std.specs.Prelude.{◌≡◌, ◌≢◌, ◌≤◌, ◌*◌, ◌^◌, ◌↔◌, ◌++◌, ◌∷◌, [], IsSome, IfSome, codes, min, sum};
 ghost use Rattle.awari_answers.specs.Broken.{HasBoard, asked_text, entry_line, limit_byte, limit_line, lines_below};
 ghost use Rattle.awari_board.specs.Rules.{IsBoard};
 ghost use Rattle.awari_file.specs.FileText.{entry_place};
+ghost use Rattle.awari_folder.specs.FolderFault.{fault_text};
 ghost use Rattle.awari_rank.specs.Rank.{rank_of};
+ghost use Rattle.awari_streams.specs.Counted.{AppendsFront};
 ghost use Rattle.awari_table.specs.declared.TheConstants.{HIGHEST_LEVEL};
 
-use crate::printing::{Refused, print};
+use crate::printing::{Refused, print, print_line};
 use crate::remarks::Explained;
 use awari_board::Board;
 use awari_check::{Answer, CheckFault};
@@ -26,9 +28,10 @@ const LIMIT_PLACE: u64 = 16;
 /// Writes the refusal of a folder, and gives the status 1. It says what the fault means, and which board
 /// of the levels breaks a rule, if that is the fault.
 pub fn refuse_folder<W: Write, E: Write>(writer: &mut W, errors: &mut E, fault: FolderFault) -> u8
-    ensures { result ≡ 1 }
+    ensures status { result ≡ 1 }
+    ensures told { AppendsFront (W.contents writer.old) (W.contents writer.new) (codes "refused " ++ fault_text fault ++ 10 ∷ []) }
 {
-    print(writer, &Refused(fault));
+    print_line(writer, &Refused(fault));
     // There is nowhere to say that this could not be written.
     print(errors, &Explained(fault));
     if let FolderFault::Verify {

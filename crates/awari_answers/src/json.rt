@@ -1,13 +1,15 @@
 //! Refusals as text, as a row of CSV, and as JSON.
 
-ghost use Rattle.std.specs.Prelude.{◌≡◌, ◌≤◌, ◌∷◌, [], ◌++◌, true, length, take};
+ghost use Rattle.std.specs.Prelude.{◌≡◌, ◌≤◌, ◌∷◌, [], ◌++◌, true, false, length, take};
 ghost use Rattle.std.specs.Io.KnownBytes.{Appends};
 ghost use Rattle.std.specs.Str.{IsUtf8};
 ghost use Rattle.awari_answers.specs.Refusals.{level_word, refusal_line, request_text};
+ghost use Rattle.awari_members.specs.Forms.{form_of};
 ghost use Rattle.awari_members.specs.Json.{json_string};
+ghost use Rattle.awari_streams.specs.Counted.{AppendsFront};
 
 use crate::asked::NoAnswer;
-use crate::printing::print;
+use crate::printing::print_line;
 use crate::refusals::{Field, Fields, Refusal, Told, Value, refusal_of};
 use crate::remarks::{Reason, Replies};
 use arrayvec::ArrayVec;
@@ -28,7 +30,8 @@ pub fn refuse_as<W: Replies>(
     word: &str,
     fault: NoAnswer,
 ) -> u8
-    ensures { result ≡ 1 }
+    ensures status { result ≡ 1 }
+    ensures told { AppendsFront (W.contents writer.old) (W.contents writer.new) (refusal_line (form_of json false) (take 200 (request_text command.now word.now)) fault ++ 10 ∷ []) }
 {
     refuse_in(
         writer,
@@ -47,7 +50,8 @@ pub fn refuse_level<W: Replies>(
     level: Option<u8>,
     fault: NoAnswer,
 ) -> u8
-    ensures { result ≡ 1 }
+    ensures status { result ≡ 1 }
+    ensures told { AppendsFront (W.contents writer.old) (W.contents writer.new) (refusal_line form (take 200 (request_text command.now (level_word level))) fault ++ 10 ∷ []) }
 {
     let word = word_of(level);
     refuse_in(writer, form, command, word.as_slice(), fault)
@@ -72,7 +76,8 @@ fn refuse_in<W: Replies>(
     word: &[u8],
     fault: NoAnswer,
 ) -> u8
-    ensures { result ≡ 1 }
+    ensures status { result ≡ 1 }
+    ensures told { AppendsFront (W.contents writer.old) (W.contents writer.new) (refusal_line form (take 200 (request_text command.now word.now)) fault ++ 10 ∷ []) }
 {
     print_refusal(writer, form, command, word, fault);
     writer.remark(&Reason(fault));
@@ -88,7 +93,8 @@ fn print_refusal<W: Write>(
     word: &[u8],
     fault: NoAnswer,
 ) -> bool
-    ensures { result ≡ true → Appends (W.contents writer.old) (W.contents writer.new) (refusal_line form (take 200 (request_text command.now word.now)) fault ++ 10 ∷ []) }
+    ensures whole { result ≡ true → Appends (W.contents writer.old) (W.contents writer.new) (refusal_line form (take 200 (request_text command.now word.now)) fault ++ 10 ∷ []) }
+    ensures front { AppendsFront (W.contents writer.old) (W.contents writer.new) (refusal_line form (take 200 (request_text command.now word.now)) fault ++ 10 ∷ []) }
 {
     let request = request_of(command.as_bytes(), word);
     let string = string_of(request.as_slice());
@@ -101,7 +107,7 @@ fn print_refusal<W: Write>(
         form,
         request,
     };
-    print(writer, &shown)
+    print_line(writer, &shown)
 }
 
 /// A request as a string of JSON, which is text.
@@ -147,7 +153,7 @@ struct Shown<'a> {
 
 impl fmt::Display for Shown<'_> {
     ghost use Rattle.std.specs.Prelude.{Some};
-    ghost use Rattle.awari_answers.specs.Refusals.{said, shown_text};
+    ghost use Rattle.awari_answers.specs.Parts.{said, shown_text};
 
     ghost output = { λ shown. Some (shown_text shown.form shown.request.now (said shown.refusal)) };
 
@@ -169,7 +175,7 @@ struct InsideIn(Option<Told>, Form);
 
 impl fmt::Display for InsideIn {
     ghost use Rattle.std.specs.Prelude.{Some};
-    ghost use Rattle.awari_answers.specs.Refusals.{inside_said, inside_text};
+    ghost use Rattle.awari_answers.specs.Parts.{inside_said, inside_text};
 
     ghost output = { λ shown. Some (inside_text shown.1 (inside_said shown.0)) };
 
@@ -193,7 +199,7 @@ struct ToldIn(Told, Form);
 
 impl fmt::Display for ToldIn {
     ghost use Rattle.std.specs.Prelude.{Some};
-    ghost use Rattle.awari_answers.specs.Refusals.{told_said, words_text};
+    ghost use Rattle.awari_answers.specs.Parts.{told_said, words_text};
 
     ghost output = { λ shown. Some (words_text shown.1 (told_said shown.0)) };
 
@@ -215,7 +221,7 @@ struct FieldsIn(Fields, Form);
 
 impl fmt::Display for FieldsIn {
     ghost use Rattle.std.specs.Prelude.{Some};
-    ghost use Rattle.awari_answers.specs.Refusals.{fields_said, fields_text};
+    ghost use Rattle.awari_answers.specs.Parts.{fields_said, fields_text};
 
     ghost output = { λ shown. Some (fields_text shown.1 (fields_said shown.0)) };
 
@@ -237,7 +243,7 @@ struct FieldIn(Field, Form);
 
 impl fmt::Display for FieldIn {
     ghost use Rattle.std.specs.Prelude.{[], ◌∷◌, Some};
-    ghost use Rattle.awari_answers.specs.Refusals.{field_said, fields_text};
+    ghost use Rattle.awari_answers.specs.Parts.{field_said, fields_text};
 
     ghost output = { λ shown. Some (fields_text shown.1 (field_said shown.0 ∷ [])) };
 
@@ -258,7 +264,7 @@ struct ValueIn(Value, Form);
 
 impl fmt::Display for ValueIn {
     ghost use Rattle.std.specs.Prelude.{Some};
-    ghost use Rattle.awari_answers.specs.Refusals.{value_in};
+    ghost use Rattle.awari_answers.specs.Parts.{value_in};
 
     ghost output = { λ shown. Some (value_in shown.0 shown.1) };
 

@@ -1,15 +1,16 @@
 //! Lines written to the output.
 
-ghost use Rattle.std.specs.Prelude.{◌≡◌, ◌≤◌, ◌++◌, ◌∷◌, [], ◌↔◌, true, false, map, IfSome};
+ghost use Rattle.std.specs.Prelude.{◌≡◌, ◌≤◌, ◌++◌, ◌∷◌, [], ◌↔◌, true, false, codes, length, map, take, IfNone, IfSome};
 ghost use Rattle.std.specs.Io.KnownBytes.{Appends};
 ghost use Rattle.awari_members.specs.Members.{line_text, said};
 ghost use Rattle.awari_members.specs.Forms.{form_of};
+ghost use Rattle.awari_streams.specs.Counted.{AppendsFront};
 
 use crate::remarks::{Explained, Replies};
 use arrayvec::ArrayString;
 use awari_members::{Line, Member, form_of};
 use std::fmt::{self, Display, Write as _};
-use std::io::Write;
+use std::io::{ErrorKind, Write};
 
 /// How many bytes of lines are written at once.
 const ROOM: usize = 4096;
@@ -52,6 +53,63 @@ pub fn print_bytes<W: Write>(writer: &mut W, lines: &[u8]) -> bool
     writer.write_all(lines).is_ok() && writer.flush().is_ok()
 }
 
+/// Writes a line and a line feed, and flushes. True if the writer took that; of a writer that refuses, a front of
+/// the line may be taken. There is room for any refusal. It takes no memory.
+pub(crate) fn print_line<W: Write, T: Display>(writer: &mut W, line: &T) -> bool
+    ensures whole { result ≡ true → IfSome (T.output line.now) (λ text. Appends (W.contents writer.old) (W.contents writer.new) (text ++ 10 ∷ [])) }
+    ensures front { IfSome (T.output line.now) (λ text. AppendsFront (W.contents writer.old) (W.contents writer.new) (text ++ 10 ∷ [])) }
+{
+    let mut text = ArrayString::<ROOM>::new();
+    match writeln!(text, "{line}") {
+        Ok(()) => write_front(writer, text.as_bytes()),
+        Err(_) => false,
+    }
+}
+
+/// Writes bytes, and flushes. True if the writer took them; it took no more than a front of them if not.
+fn write_front<W: Write>(writer: &mut W, bytes: &[u8]) -> bool
+    ensures whole { result ≡ true → Appends (W.contents writer.old) (W.contents writer.new) bytes.now }
+    ensures front { AppendsFront (W.contents writer.old) (W.contents writer.new) bytes.now }
+{
+    if write_pieces(writer, bytes) {
+        return writer.flush().is_ok();
+    }
+    false
+}
+
+/// Writes bytes. True if the writer took them; it took no more than a front of them if not.
+fn write_pieces<W: Write>(writer: &mut W, bytes: &[u8]) -> bool
+    ensures whole { result ≡ true → Appends (W.contents writer.old) (W.contents writer.new) bytes.now }
+    ensures front { AppendsFront (W.contents writer.old) (W.contents writer.new) bytes.now }
+{
+    let mut rest = bytes;
+    for _turn in 0..u64::MAX {
+        if rest.is_empty() {
+            return true;
+        }
+        match write_piece(writer, rest) {
+            Some(count) => rest = &rest[count..],
+            None => return false,
+        }
+    }
+    false
+}
+
+/// Writes some of these bytes, at least one: how many, 0 if the call was interrupted. None if the writer refuses.
+fn write_piece<W: Write>(writer: &mut W, bytes: &[u8]) -> Option<usize>
+    ensures taken { IfSome result (λ count. (count ≤ length bytes.now) × Appends (W.contents writer.old) (W.contents writer.new) (take count bytes.now)) }
+    ensures refused { IfNone result (Appends (W.contents writer.old) (W.contents writer.new) []) }
+{
+    match writer.write(bytes) {
+        Ok(0) => None,
+        Ok(count) => Some(count),
+        Err(fault) => match fault.kind() {
+            ErrorKind::Interrupted => Some(0),
+            _ => None,
+        },
+    }
+}
+
 /// A refusal. It is printed as `refused` and the fault.
 #[derive(Clone, Copy)]
 pub struct Refused<T>(pub T);
@@ -78,9 +136,10 @@ pub fn status_of(written: bool) -> u8
 /// Writes a refusal, and gives the status 1, whether the writer took it or not. What it means is told as a
 /// remark.
 pub fn refuse<W: Replies, T: Display + Copy>(writer: &mut W, fault: T) -> u8
-    ensures { result ≡ 1 }
+    ensures status { result ≡ 1 }
+    ensures told { IfSome (T.output fault) (λ text. AppendsFront (W.contents writer.old) (W.contents writer.new) (codes "refused " ++ text ++ 10 ∷ [])) }
 {
-    print(writer, &Refused(fault));
+    print_line(writer, &Refused(fault));
     writer.remark(&Explained(fault));
     1
 }

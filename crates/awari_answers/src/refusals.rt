@@ -3,7 +3,8 @@
 
 ghost use Rattle.std.specs.Prelude.{◌≡◌, ◌∷◌, []};
 ghost use Rattle.awari_members.specs.Members.{number, text};
-ghost use Rattle.awari_answers.specs.Refusals.{field_said, fields_of, fields_said, inside_of, inside_of_folder, inside_said, level_of, said, said_of, told_said, verify_fields_of, verify_name_of, words_of_verify};
+ghost use Rattle.awari_answers.specs.Parts.{field_said, fields_said, inside_said, said, said_of, told_said};
+ghost use Rattle.awari_answers.specs.Refusals.{fields_of, inside_of, inside_of_folder, level_of, verify_fields_of, verify_name_of, words_of_verify};
 
 use crate::asked::NoAnswer;
 use awari_folder::FolderFault;

@@ -19,7 +19,9 @@ const REMARK_ROOM: usize = 2048;
 /// A writer that answers go to. It may also keep remarks, which are told beside an answer.
 pub trait Replies: Write {
     /// Tells a remark, without its last line feed. A writer that keeps none leaves it out.
-    fn remark<T: Display>(&mut self, _remark: &T) {}
+    fn remark<T: Display>(&mut self, _remark: &T)
+        ensures { Self.contents self.new ≡ Self.contents self.old }
+    {}
 }
 
 impl<W: Replies> Replies for &mut W {
