@@ -22,7 +22,7 @@ use std::{fmt, str};
 const REQUEST_ROOM: usize = 200;
 
 /// Writes a refusal, as JSON if `json` says so, and gives the status 1. The request, a command and a word, is
-/// told with JSON alone.
+/// told with JSON alone. The writer holds its line then, or a front of it if the writer refused.
 pub fn refuse_as<W: Replies>(
     writer: &mut W,
     json: bool,
@@ -42,7 +42,8 @@ pub fn refuse_as<W: Replies>(
     )
 }
 
-/// Writes a refusal of a command about a level, or about all, in this form, and gives the status 1.
+/// Writes a refusal of a command about a level, or about all, in this form, and gives the status 1. The writer
+/// holds its line then, or a front of it if the writer refused.
 pub fn refuse_level<W: Replies>(
     writer: &mut W,
     form: Form,

@@ -53,8 +53,8 @@ pub fn print_bytes<W: Write>(writer: &mut W, lines: &[u8]) -> bool
     writer.write_all(lines).is_ok() && writer.flush().is_ok()
 }
 
-/// Writes a line and a line feed, and flushes. True if the writer took that; of a writer that refuses, a front of
-/// the line may be taken. There is room for any refusal. It takes no memory.
+/// Writes a refusal's line and a line feed, and flushes. True if the writer took that; it took no more than a front
+/// of it if not. There is room for the line of any refusal. It takes no memory.
 pub(crate) fn print_line<W: Write, T: Display>(writer: &mut W, line: &T) -> bool
     ensures whole { result ≡ true → IfSome (T.output line.now) (λ text. Appends (W.contents writer.old) (W.contents writer.new) (text ++ 10 ∷ [])) }
     ensures front { IfSome (T.output line.now) (λ text. AppendsFront (W.contents writer.old) (W.contents writer.new) (text ++ 10 ∷ [])) }
@@ -133,8 +133,8 @@ pub fn status_of(written: bool) -> u8
     u8::from(!written)
 }
 
-/// Writes a refusal, and gives the status 1, whether the writer took it or not. What it means is told as a
-/// remark.
+/// Writes a refusal, and gives the status 1. The writer holds its line then, or a front of it if the writer
+/// refused. What it means is told as a remark.
 pub fn refuse<W: Replies, T: Display + Copy>(writer: &mut W, fault: T) -> u8
     ensures status { result ≡ 1 }
     ensures told { IfSome (T.output fault) (λ text. AppendsFront (W.contents writer.old) (W.contents writer.new) (codes "refused " ++ text ++ 10 ∷ [])) }
