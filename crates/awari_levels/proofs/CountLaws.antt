@@ -1,10 +1,8 @@
--- Lines of numbers of boards, one after the other.
-use Rattle.std.proofs.Common.{◌≡◌, ℕ, ◌+◌, ◌==◌, ◌<◌, Bool, true, false, cond, List, [], ◌∷◌, ◌++◌, slice_get, take, Option, refl, sym, ◌∙◌, ap, subst, append_assoc, arith}
+-- The lines of values, of distances and of levels.
+use Rattle.std.proofs.Common.{◌≡◌, ℕ, ◌+◌, ◌<◌, List, [], ◌∷◌, ◌++◌, slice_get, take, Option, refl, sym, ◌∙◌, ap, subst, append_assoc}
 use Rattle.std.proofs.KnownBytes.{Appends-trans}
-use Rattle.std.proofs.lemmas.Bool.Decides.{nat_tests}
 use Rattle.std.proofs.lemmas.Grind.{flat_map-append}
-use Rattle.std.proofs.lemmas.List.{append-nil, map-id}
-use Rattle.std.proofs.lemmas.List.FromFn.{map-range_with_len_more}
+use Rattle.std.proofs.lemmas.List.{append-nil}
 use Rattle.std.specs.Io.KnownBytes.{Appends}
 use Rattle.std.specs.List.{flat_map, range_with_len}
 use Rattle.awari_table.specs.declared.images.Entry.{Entry}
@@ -14,38 +12,24 @@ use Rattle.awari_answers.specs.declared.telling.LevelLine.{LevelLine}
 use Rattle.std.specs.Prelude.{IsSomeAnd}
 use Rattle.awari_table.proofs.ShelfLemmas.{take-read}
 use Rattle.awari_facts.proofs.SourceLaws.{image_of}
+use Rattle.awari_levels.proofs.LineLaws.{lines-next, lines-skip, share-none, share-some}
 use Rattle.awari_levels.specs.Numbers.{AreNumbersOf}
 use Rattle.awari_levels.specs.declared.counts.Numbers.{Numbers}
 use Rattle.awari_members.specs.Members.{share_line}
 use Rattle.awari_members.specs.declared.forms.Form.{Form}
 use Rattle.awari_levels.specs.Counts.{boards_of_distance, boards_of_value, count_lines, distance_lines, lines_of_levels, names_of_levels, shown_distance, shown_level, shown_levels, shown_told, shown_value, told_of, top_of, value_at, value_lines}
 
-range-more : (n : ℕ) → range_with_len 0 (n + 1) ≡ range_with_len 0 n ++ n ∷ []
-range-more n = sym (map-id (range_with_len 0 (n + 1))) ∙ map-range_with_len_more (λ k. k) 0 n n (omega arith) ∙ ap (λ xs. xs ++ n ∷ []) (map-id (range_with_len 0 n))
-
--- the lines of the keys up to one
-lines-more : (f : ℕ → List ℕ) (n : ℕ) → flat_map f (range_with_len 0 (n + 1)) ≡ flat_map f (range_with_len 0 n) ++ f n
-lines-more f n = ap (flat_map f) (range-more n) ∙ flat_map-append f (range_with_len 0 n) (n ∷ []) ∙ ap (λ t. flat_map f (range_with_len 0 n) ++ t) (append-nil (f n))
-
 -- a key that no board has
 pub shared-skip : (shown : ℕ → ℕ → List ℕ) (count : ℕ → ℕ) (n boards : ℕ) (before now : Option (List ℕ)) → Appends before now (flat_map (λ k. share_line (shown k) (count k)) (range_with_len 0 n))
     → boards ≡ count n → boards ≡ 0 → Appends before now (flat_map (λ k. share_line (shown k) (count k)) (range_with_len 0 (n + 1)))
-shared-skip shown count n boards before now so_far is none =
-    let empty : share_line (shown n) (count n) ≡ [] = ap (share_line (shown n)) (sym is ∙ none) in
-    subst (Appends before now) (sym (lines-more (λ k. share_line (shown k) (count k)) n ∙ ap (λ t. flat_map (λ k. share_line (shown k) (count k)) (range_with_len 0 n) ++ t) empty ∙ append-nil _)) so_far
+shared-skip shown count n boards before now so_far is none = lines-skip (λ k. share_line (shown k) (count k)) n before now so_far (share-none (shown n) boards (count n) is none)
 
 -- a key that some have
 pub shared-line : (shown : ℕ → ℕ → List ℕ) (count : ℕ → ℕ) (n boards : ℕ) (before now after : Option (List ℕ)) → Appends before now (flat_map (λ k. share_line (shown k) (count k)) (range_with_len 0 n))
     → boards ≡ count n → 0 < boards → Appends now after (shown n boards ++ 10 ∷ [])
     → Appends before after (flat_map (λ k. share_line (shown k) (count k)) (range_with_len 0 (n + 1)))
 shared-line shown count n boards before now after so_far is some line =
-    let here : share_line (shown n) (count n) ≡ shown n boards ++ 10 ∷ [] = ap (share_line (shown n)) (sym is) ∙ go (boards == 0) (grind (arith, nat_tests)) in
-    subst (Appends before after) (sym (lines-more (λ k. share_line (shown k) (count k)) n ∙ ap (λ t. flat_map (λ k. share_line (shown k) (count k)) (range_with_len 0 n) ++ t) here))
-    (Appends-trans before now after _ _ so_far line)
-  where
-    go : (b : Bool) → b ≡ false → cond b [] (shown n boards ++ 10 ∷ []) ≡ shown n boards ++ 10 ∷ []
-    go true e = cc
-    go false e = refl
+    lines-next (λ k. share_line (shown k) (count k)) n before now after so_far (subst (Appends now after) (sym (share-some (shown n) boards (count n) is some)) line)
 
 -- all keys
 pub valued-all : (form : Form) (entries : List Entry) (n : ℕ) (before after : Option (List ℕ)) → n ≡ 256
@@ -66,11 +50,6 @@ pub counted-all : (form : Form) (image : Image) (told : LevelLine) (before first
 unfolding count_lines
 counted-all form image told before first second after is top values distances =
     Appends-trans before first after _ _ (subst (λ t. Appends before first (top_of form t)) is top) (Appends-trans first second after _ _ values distances)
-
--- one part more
-pub lines-next : (f : ℕ → List ℕ) (n : ℕ) (before now after : Option (List ℕ)) → Appends before now (flat_map f (range_with_len 0 n)) → Appends now after (f n)
-    → Appends before after (flat_map f (range_with_len 0 (n + 1)))
-lines-next f n before now after so_far next = subst (Appends before after) (sym (lines-more f n)) (Appends-trans before now after _ _ so_far next)
 
 -- what is told of a level
 pub told_is : (image : Image) (told : LevelLine) → IsToldOf image told → told ≡ told_of image

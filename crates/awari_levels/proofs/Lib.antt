@@ -1,9 +1,14 @@
+pub mod CellLaws
 pub mod ChoiceLaws
 pub mod CountLaws
 pub mod FolderLaws
 pub mod HeldLaws
+pub mod KeyLaws
+pub mod LineLaws
 pub mod ListingLaws
+pub mod PairLaws
 pub mod ShareLaws
+pub mod SizeLaws
 pub mod SourceLaws
 pub mod TallyLaws
 pub mod TextLaws

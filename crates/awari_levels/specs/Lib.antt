@@ -1,10 +1,14 @@
+pub mod Asking
 pub mod Batches
 pub mod Boards
 pub mod Counts
 pub mod Folders
 pub mod Listing
 pub mod Numbers
+pub mod Pairs
+pub mod Ranges
 pub mod Segments
+pub mod Tables
 pub mod Tallies
 pub mod Texts
 pub mod Walks

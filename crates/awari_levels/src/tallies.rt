@@ -10,12 +10,12 @@ ghost use Rattle.awari_levels.specs.Counts.{value_at};
 ghost use Rattle.awari_facts.specs.Sources.{SaysBy, levels_of};
 ghost use Rattle.awari_levels.specs.Tallies.{IsTallied, IsTallyOf, has_sign};
 
+use crate::tables::{count_cell, wrong_limit};
 use awari_facts::{Source, read_entry};
 use awari_folder::{Folder, FolderFault};
 use awari_places::Run;
 use awari_rank::size;
 use awari_table::Entry;
-use awari_verify::{Rule, VerifyFault};
 use std::alloc::{AllocError, Global};
 
 /// How many values a byte has.
@@ -68,15 +68,6 @@ fn count(counts: &mut [u32], place: usize)
     counts[place] += 1;
 }
 
-/// The same of a vector.
-fn count_distance(counts: &mut Vec<u32>, place: usize)
-    requires inside { place < vec_len counts.old }
-    requires few { slice_index counts.old.items place < 4294967295 }
-    ensures { counts.new.items ≡ slice_set counts.old.items place (slice_index counts.old.items place + 1) }
-{
-    counts[place] += 1;
-}
-
 /// No board, for distances up to this limit. It takes memory for four bytes a distance.
 fn new_tally(alloc: Global, limit: u32) -> Result<Tally, AllocError>
     ensures { IfOk result (IsTallyOf limit []) }
@@ -97,7 +88,7 @@ fn add(tally: &mut Tally, entry: Entry)
 {
     count(&mut tally.signs, place_of_sign(entry.value));
     count(&mut tally.values, place_of_value(entry.value));
-    count_distance(&mut tally.distances, entry.dist as usize);
+    count_cell(&mut tally.distances, entry.dist as usize);
 }
 
 /// The boards of a level, counted. Condition: the source has the level. It takes memory for four bytes a
@@ -134,15 +125,4 @@ pub(crate) fn tally_level<F: Folder>(
         return Err(wrong_limit(level));
     }
     Ok(tally)
-}
-
-/// The refusal of a level whose limit is not its greatest distance.
-fn wrong_limit(level: u8) -> FolderFault {
-    FolderFault::Verify {
-        level,
-        fault: VerifyFault::Refused {
-            rank: 0,
-            rule: Rule::V7,
-        },
-    }
 }

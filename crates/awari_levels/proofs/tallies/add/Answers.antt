@@ -15,5 +15,5 @@ returns c = λ limit entries are.
           (λ k lt. ap (has_sign k) same ∙ c.place_of_sign.ensures.sign k lt) c.count.ensures;
       values = counted-more (λ k x. int_eq x.value (value_at k)) 256 entries c.args.tally.now.values _ c.place_of_value.result e are.values c.place_of_value.ensures.low
           (λ k lt. ap (λ v. int_eq v (value_at k)) (same ∙ c.place_of_value.ensures.value) ∙ value_key c.place_of_value.result k) c.count-2.ensures;
-      distances = counted-more (λ k x. x.dist == k) (limit + 1) entries c.args.tally.now.distances.items _ e.dist e are.distances (omega (arith, are.distances.long, c.requires.dist)) (λ k lt. refl) c.count_distance.ensures;
+      distances = counted-more (λ k x. x.dist == k) (limit + 1) entries c.args.tally.now.distances.items _ e.dist e are.distances (omega (arith, are.distances.long, c.requires.dist)) (λ k lt. refl) c.count_cell.ensures.more;
     }

@@ -1,0 +1,46 @@
+-- Lines of numbers of boards, one after the other.
+use Rattle.std.proofs.Common.{◌≡◌, ℕ, ◌+◌, ◌==◌, ◌<◌, Bool, true, false, cond, List, [], ◌∷◌, ◌++◌, Option, sym, ◌∙◌, ap, subst, append_assoc, refl, arith}
+use Rattle.std.proofs.KnownBytes.{Appends-trans}
+use Rattle.std.proofs.lemmas.Bool.Decides.{nat_tests}
+use Rattle.std.proofs.lemmas.Grind.{flat_map-append}
+use Rattle.std.proofs.lemmas.List.{append-nil, map-id}
+use Rattle.std.proofs.lemmas.List.FromFn.{map-range_with_len_more}
+use Rattle.std.specs.Io.KnownBytes.{Appends}
+use Rattle.std.specs.List.{flat_map, range_with_len}
+use Rattle.awari_members.specs.Members.{share_line}
+
+range-more : (n : ℕ) → range_with_len 0 (n + 1) ≡ range_with_len 0 n ++ n ∷ []
+range-more n = sym (map-id (range_with_len 0 (n + 1))) ∙ map-range_with_len_more (λ k. k) 0 n n (omega arith) ∙ ap (λ xs. xs ++ n ∷ []) (map-id (range_with_len 0 n))
+
+-- the lines of the places up to one
+lines-more : (f : ℕ → List ℕ) (n : ℕ) → flat_map f (range_with_len 0 (n + 1)) ≡ flat_map f (range_with_len 0 n) ++ f n
+lines-more f n = ap (flat_map f) (range-more n) ∙ flat_map-append f (range_with_len 0 n) (n ∷ []) ∙ ap (λ t. flat_map f (range_with_len 0 n) ++ t) (append-nil (f n))
+
+-- one part more
+pub lines-next : (f : ℕ → List ℕ) (n : ℕ) (before now after : Option (List ℕ)) → Appends before now (flat_map f (range_with_len 0 n)) → Appends now after (f n)
+    → Appends before after (flat_map f (range_with_len 0 (n + 1)))
+lines-next f n before now after so_far next = subst (Appends before after) (sym (lines-more f n)) (Appends-trans before now after _ _ so_far next)
+
+-- a part of no lines
+pub lines-skip : (f : ℕ → List ℕ) (n : ℕ) (before now : Option (List ℕ)) → Appends before now (flat_map f (range_with_len 0 n)) → f n ≡ [] → Appends before now (flat_map f (range_with_len 0 (n + 1)))
+lines-skip f n before now so_far none = subst (Appends before now) (sym (lines-more f n ∙ ap (λ t. flat_map f (range_with_len 0 n) ++ t) none ∙ append-nil _)) so_far
+
+-- the line of no boards, and that of some
+pub share-none : (shown : ℕ → List ℕ) (boards count : ℕ) → boards ≡ count → boards ≡ 0 → share_line shown count ≡ []
+share-none shown boards count is none = ap (share_line shown) (sym is ∙ none)
+
+pub share-some : (shown : ℕ → List ℕ) (boards count : ℕ) → boards ≡ count → 0 < boards → share_line shown count ≡ shown boards ++ 10 ∷ []
+share-some shown boards count is some = ap (share_line shown) (sym is) ∙ go (boards == 0) (grind (arith, nat_tests))
+  where
+    go : (b : Bool) → b ≡ false → cond b [] (shown boards ++ 10 ∷ []) ≡ shown boards ++ 10 ∷ []
+    go true e = cc
+    go false e = refl
+
+-- one part more, below what stands above them
+pub lines-below : (head : List ℕ) (f : ℕ → List ℕ) (n : ℕ) (before now after : Option (List ℕ)) → Appends before now (head ++ flat_map f (range_with_len 0 n)) → Appends now after (f n)
+    → Appends before after (head ++ flat_map f (range_with_len 0 (n + 1)))
+lines-below head f n before now after so_far next =
+    subst (Appends before after) (append_assoc head (flat_map f (range_with_len 0 n)) (f n) ∙ ap (λ t. head ++ t) (sym (lines-more f n))) (Appends-trans before now after _ _ so_far next)
+
+pub lines-above : (head : List ℕ) (f : ℕ → List ℕ) (before now : Option (List ℕ)) → Appends before now head → Appends before now (head ++ flat_map f (range_with_len 0 0))
+lines-above head f before now above = subst (Appends before now) (sym (append-nil head)) above

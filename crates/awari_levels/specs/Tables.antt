@@ -1,0 +1,68 @@
+-- A table of numbers of boards, row by row. Private functions alone go by this: no public contract does.
+use Rattle.std.specs.Prelude.{◌≡◌, true, ℕ, ◌+◌, ◌*◌, ◌<◌, ◌≤◌, List, count_by, length, slice_get, slice_index, slice_index_or, take, ℤ, Option, Some, None, IfSome}
+use Rattle.awari_facts.specs.Numbers.{is_own, number_in}
+use Rattle.awari_queries.specs.declared.columns.Pair.{Pair}
+use Rattle.awari_rank.specs.Rank.{size_of}
+use Rattle.awari_rank.specs.Tuples.{tuples}
+use Rattle.awari_table.specs.declared.images.Image.{Image}
+use Rattle.awari_levels.specs.Pairs.{has_pair}
+use Rattle.awari_levels.specs.Ranges.{number_at, width_of}
+use Rattle.awari_levels.specs.declared.cells.Start.{Start}
+use Rattle.awari_levels.specs.declared.tables.Table.{Table}
+
+-- how many rows and columns the table has
+abbrev pub rows_of : Table → ℕ
+rows_of table = width_of table.limit table.pair.first
+
+abbrev pub columns_of : Table → ℕ
+columns_of table = width_of table.limit table.pair.second
+
+abbrev pub cells_of : Table → ℕ
+cells_of table = rows_of table * columns_of table
+
+-- an entry and the rules say both numbers
+abbrev pub IsOwn : Pair → Type 0
+IsOwn pair = (is_own pair.first ≡ true) × (is_own pair.second ≡ true)
+
+-- the cell of two numbers
+pub record IsCell (table : Table) (first second : ℤ) (cell : ℕ) : Type 0 where
+  pub row : ℕ
+  pub column : ℕ
+  pub row_inside : row < rows_of table
+  pub column_inside : column < columns_of table
+  pub first_is : first ≡ number_at table.pair.first row
+  pub second_is : second ≡ number_at table.pair.second column
+  pub is : cell ≡ row * columns_of table + column
+
+-- that of a board's numbers
+abbrev pub IsCellOf : List Image → Table → List ℕ → ℕ → Type 0
+IsCellOf images table board cell = IsCell table (number_in images table.pair.first board) (number_in images table.pair.second board) cell
+
+-- each cell has the number of those of these boards that have its two numbers
+pub record AreTabled (images : List Image) (table : Table) (boards : List (List ℕ)) (counts : List ℕ) : Type 0 where
+  pub each : (i j : ℕ) → i < rows_of table → j < columns_of table
+      → slice_index counts (i * columns_of table + j) ≡ count_by (has_pair images table.pair.first table.pair.second (number_at table.pair.first i) (number_at table.pair.second j)) boards
+
+-- this many boards of the level are counted
+abbrev pub AreTabledTo : List Image → Table → ℕ → List ℕ → Type 0
+AreTabledTo images table rank counts = AreTabled images table (take rank (tuples 12 table.level)) counts
+
+-- the board of a rank is in this cell
+pub record HasCell (images : List Image) (table : Table) (rank cell : ℕ) : Type 0 where
+  pub inside : cell < cells_of table
+  pub board : List ℕ
+  pub listed : slice_get (tuples 12 table.level) rank ≡ Some board
+  pub own : IsCellOf images table board cell
+
+abbrev pub IsCellAt : List Image → Table → ℕ → Option ℕ → Type 0
+IsCellAt images table rank found = IfSome found (HasCell images table rank)
+
+-- these are the cells of successive ranks
+pub record AreCellsFrom (images : List Image) (table : Table) (rank : ℕ) (found : List (Option ℕ)) : Type 0 where
+  pub each : (k : ℕ) → k < length found → IsCellAt images table (rank + k) (slice_index_or found k None)
+
+-- this many boards of a level follow from the segment's first one on
+pub record HasBoards (images : List Image) (start : Start) (boards : ℕ) : Type 0 where
+  pub known : start.table.level < length images
+  pub inside : start.first + boards ≤ size_of start.table.level
+  pub fits : start.first + boards < 4294967296

@@ -1,3 +1,0 @@
-pub mod CellLaws
-pub mod LineLaws
-pub mod SizeLaws

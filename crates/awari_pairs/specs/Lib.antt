@@ -1,4 +1,0 @@
-pub mod Pairs
-pub mod Ranges
-pub mod Tables
-pub mod Wishes
