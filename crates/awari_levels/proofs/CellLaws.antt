@@ -14,7 +14,7 @@ use Rattle.awari_table.proofs.ShelfLemmas.{take-read}
 use Rattle.awari_table.specs.declared.images.Entry.{Entry}
 use Rattle.awari_table.specs.declared.images.Image.{Image}
 use Rattle.awari_levels.proofs.KeyLaws.{counted-push, get_or-set-cases}
-use Rattle.awari_levels.specs.Pairs.{boards_with, has_pair}
+use Rattle.awari_levels.specs.Pairs.{has_pair}
 use Rattle.awari_levels.specs.Ranges.{below_of, number_at}
 use Rattle.awari_levels.specs.Tables.{AreTabled, AreTabledTo, HasCell, IsCell, IsCellAt, IsCellOf, cells_of, columns_of, rows_of}
 use Rattle.awari_levels.specs.declared.tables.Table.{Table}
@@ -26,6 +26,11 @@ row-before : (w a i b j : ℕ) → a < i → b < w → a * w + b < i * w + j
 row-before w a i b j above inside =
     let lower : a + 1 ≤ i = omega (arith, above) in
     omega (arith, mul-le-mul_right w lower, inside)
+
+pub row-within : (rows w i : ℕ) → i < rows → i * w + w ≤ rows * w
+row-within rows w i inside =
+    let next : i + 1 ≤ rows = omega (arith, inside) in
+    omega (arith, mul-le-mul_right w next)
 
 pub cell-inside : (rows w i j : ℕ) → i < rows → j < w → i * w + j < rows * w
 cell-inside rows w i j row column = omega (arith, row-before w i rows j 0 row column)
@@ -121,12 +126,6 @@ pub tabled-all : (images : List Image) (table : Table) (rank : ℕ) (counts : Li
 unfolding size_of
 tabled-all images table rank counts all is =
     subst (λ bs. AreTabled images table bs counts) (take_all rank (tuples 12 table.level) (omega (arith, is))) all
-
--- what is read in a cell of the table
-pub cell-read : (images : List Image) (table : Table) (counts : List ℕ) (row column width : ℕ) → AreTabled images table (tuples 12 table.level) counts → width ≡ columns_of table → row < rows_of table → column < width
-    → get_or counts (row * width + column) 0 ≡ boards_with images table.pair.first table.pair.second (number_at table.pair.first row) (number_at table.pair.second column) table.level
-cell-read images table counts row column width are is above inside =
-    ap (λ w. get_or counts (row * w + column) 0) is ∙ are.each row column above (omega (arith, is, inside))
 
 -- ---- cells that were found before they are counted
 

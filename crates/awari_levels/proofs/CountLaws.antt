@@ -1,10 +1,9 @@
 -- The lines of values, of distances and of levels.
-use Rattle.std.proofs.Common.{◌≡◌, ℕ, ◌+◌, ◌<◌, List, [], ◌∷◌, ◌++◌, slice_get, take, Option, refl, sym, ◌∙◌, ap, subst, append_assoc}
+use Rattle.std.proofs.Common.{◌≡◌, ℕ, ◌+◌, ◌<◌, List, [], ◌∷◌, ◌++◌, length, get_or, slice_get, take, Option, refl, sym, ◌∙◌, ap, subst, append_assoc, arith}
 use Rattle.std.proofs.KnownBytes.{Appends-trans}
 use Rattle.std.proofs.lemmas.Grind.{flat_map-append}
 use Rattle.std.proofs.lemmas.List.{append-nil}
 use Rattle.std.specs.Io.KnownBytes.{Appends}
-use Rattle.std.specs.List.{flat_map, range_with_len}
 use Rattle.awari_table.specs.declared.images.Entry.{Entry}
 use Rattle.awari_table.specs.declared.images.Image.{Image}
 use Rattle.awari_answers.specs.LevelLines.{IsToldOf}
@@ -12,37 +11,29 @@ use Rattle.awari_answers.specs.declared.telling.LevelLine.{LevelLine}
 use Rattle.std.specs.Prelude.{IsSomeAnd}
 use Rattle.awari_table.proofs.ShelfLemmas.{take-read}
 use Rattle.awari_facts.proofs.SourceLaws.{image_of}
-use Rattle.awari_levels.proofs.LineLaws.{lines-next, lines-skip, share-none, share-some}
 use Rattle.awari_levels.specs.Numbers.{AreNumbersOf}
 use Rattle.awari_levels.specs.declared.counts.Numbers.{Numbers}
-use Rattle.awari_members.specs.Members.{share_line}
+use Rattle.awari_queries.specs.declared.columns.Column.TheVariants.{Value, Distance}
 use Rattle.awari_members.specs.declared.forms.Form.{Form}
-use Rattle.awari_levels.specs.Counts.{boards_of_distance, boards_of_value, count_lines, distance_lines, lines_of_levels, names_of_levels, shown_distance, shown_level, shown_levels, shown_told, shown_value, told_of, top_of, value_at, value_lines}
+use Rattle.awari_levels.specs.Counts.{boards_of_distance, boards_of_value, count_lines, distance_lines, lines_of_levels, names_of_levels, shown_level, shown_levels, shown_told, told_of, top_of, value_lines}
+use Rattle.awari_levels.specs.Ranges.{number_at}
+use Rattle.awari_levels.specs.Rows.{head_of, row_lines}
+use Rattle.awari_levels.specs.Tallies.{AreByDistance, AreByValue}
 
--- a key that no board has
-pub shared-skip : (shown : ℕ → ℕ → List ℕ) (count : ℕ → ℕ) (n boards : ℕ) (before now : Option (List ℕ)) → Appends before now (flat_map (λ k. share_line (shown k) (count k)) (range_with_len 0 n))
-    → boards ≡ count n → boards ≡ 0 → Appends before now (flat_map (λ k. share_line (shown k) (count k)) (range_with_len 0 (n + 1)))
-shared-skip shown count n boards before now so_far is none = lines-skip (λ k. share_line (shown k) (count k)) n before now so_far (share-none (shown n) boards (count n) is none)
-
--- a key that some have
-pub shared-line : (shown : ℕ → ℕ → List ℕ) (count : ℕ → ℕ) (n boards : ℕ) (before now after : Option (List ℕ)) → Appends before now (flat_map (λ k. share_line (shown k) (count k)) (range_with_len 0 n))
-    → boards ≡ count n → 0 < boards → Appends now after (shown n boards ++ 10 ∷ [])
-    → Appends before after (flat_map (λ k. share_line (shown k) (count k)) (range_with_len 0 (n + 1)))
-shared-line shown count n boards before now after so_far is some line =
-    lines-next (λ k. share_line (shown k) (count k)) n before now after so_far (subst (Appends now after) (sym (share-some (shown n) boards (count n) is some)) line)
-
--- all keys
-pub valued-all : (form : Form) (entries : List Entry) (n : ℕ) (before after : Option (List ℕ)) → n ≡ 256
-    → Appends before after (flat_map (λ k. share_line (shown_value form (value_at k)) (boards_of_value entries (value_at k))) (range_with_len 0 n)) → Appends before after (value_lines form entries)
+-- the rows of values and of distances
+pub valued-all : (form : Form) (entries : List Entry) (counts : List ℕ) (before after : Option (List ℕ)) → AreByValue entries counts
+    → (((k : ℕ) → k < length counts → get_or counts k 0 ≡ boards_of_value entries (number_at Value k)) → Appends before after (row_lines form (head_of form Value) Value (λ k. boards_of_value entries (number_at Value k)) (length counts)))
+    → Appends before after (value_lines form entries)
 unfolding value_lines
-valued-all form entries n before after is all =
-    subst (λ m. Appends before after (flat_map (λ k. share_line (shown_value form (value_at k)) (boards_of_value entries (value_at k))) (range_with_len 0 m))) is all
+valued-all form entries counts before after are lines =
+    subst (λ n. Appends before after (row_lines form (head_of form Value) Value (λ k. boards_of_value entries (number_at Value k)) n)) are.long (lines (λ k inside. are.each k (omega (arith, inside, are.long))))
 
-pub distant-all : (form : Form) (entries : List Entry) (limit n : ℕ) (before after : Option (List ℕ)) → n ≡ limit + 1
-    → Appends before after (flat_map (λ k. share_line (shown_distance form k) (boards_of_distance entries k)) (range_with_len 0 n)) → Appends before after (distance_lines form limit entries)
+pub distant-all : (form : Form) (limit : ℕ) (entries : List Entry) (counts : List ℕ) (before after : Option (List ℕ)) → AreByDistance limit entries counts
+    → (((k : ℕ) → k < length counts → get_or counts k 0 ≡ boards_of_distance entries k) → Appends before after (row_lines form (head_of form Distance) Distance (boards_of_distance entries) (length counts)))
+    → Appends before after (distance_lines form limit entries)
 unfolding distance_lines
-distant-all form entries limit n before after is all =
-    subst (λ m. Appends before after (flat_map (λ k. share_line (shown_distance form k) (boards_of_distance entries k)) (range_with_len 0 m))) is all
+distant-all form limit entries counts before after are lines =
+    subst (λ n. Appends before after (row_lines form (head_of form Distance) Distance (boards_of_distance entries) n)) are.long (lines (λ k inside. are.each k (omega (arith, inside, are.long))))
 
 -- what stands above a level's values and distances, and their lines
 pub counted-all : (form : Form) (image : Image) (told : LevelLine) (before first second after : Option (List ℕ)) → told ≡ told_of image → Appends before first (top_of form told)

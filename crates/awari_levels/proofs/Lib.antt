@@ -7,7 +7,6 @@ pub mod KeyLaws
 pub mod LineLaws
 pub mod ListingLaws
 pub mod PairLaws
-pub mod ShareLaws
 pub mod SizeLaws
 pub mod SourceLaws
 pub mod TallyLaws

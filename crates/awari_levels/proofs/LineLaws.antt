@@ -1,13 +1,17 @@
 -- Lines of numbers of boards, one after the other.
 use Rattle.std.proofs.Common.{◌≡◌, ℕ, ◌+◌, ◌==◌, ◌<◌, Bool, true, false, cond, List, [], ◌∷◌, ◌++◌, Option, sym, ◌∙◌, ap, subst, append_assoc, refl, arith}
-use Rattle.std.proofs.KnownBytes.{Appends-trans}
+use Rattle.std.proofs.KnownBytes.{Appends-nil, Appends-trans}
 use Rattle.std.proofs.lemmas.Bool.Decides.{nat_tests}
 use Rattle.std.proofs.lemmas.Grind.{flat_map-append}
 use Rattle.std.proofs.lemmas.List.{append-nil, map-id}
 use Rattle.std.proofs.lemmas.List.FromFn.{map-range_with_len_more}
 use Rattle.std.specs.Io.KnownBytes.{Appends}
 use Rattle.std.specs.List.{flat_map, range_with_len}
-use Rattle.awari_members.specs.Members.{share_line}
+use Rattle.awari_members.specs.Members.{Named, share_line}
+use Rattle.awari_members.specs.declared.forms.Form.{Form}
+use Rattle.awari_queries.specs.declared.columns.Column.{Column}
+use Rattle.awari_levels.specs.Ranges.{number_at}
+use Rattle.awari_levels.specs.Rows.{column_member, place_line, row_lines, share_text}
 
 range-more : (n : ℕ) → range_with_len 0 (n + 1) ≡ range_with_len 0 n ++ n ∷ []
 range-more n = sym (map-id (range_with_len 0 (n + 1))) ∙ map-range_with_len_more (λ k. k) 0 n n (omega arith) ∙ ap (λ xs. xs ++ n ∷ []) (map-id (range_with_len 0 n))
@@ -44,3 +48,24 @@ lines-below head f n before now after so_far next =
 
 pub lines-above : (head : List ℕ) (f : ℕ → List ℕ) (before now : Option (List ℕ)) → Appends before now head → Appends before now (head ++ flat_map f (range_with_len 0 0))
 lines-above head f before now above = subst (Appends before now) (sym (append-nil head)) above
+
+-- ---- a row
+
+pub row-none : (form : Form) (head : List Named) (column : Column) (count : ℕ → ℕ) (before : Option (List ℕ)) → Appends before before (row_lines form head column count 0)
+unfolding row_lines
+row-none form head column count before = Appends-nil before
+
+-- one place more: no board has its number
+pub row-skip : (form : Form) (head : List Named) (column : Column) (count : ℕ → ℕ) (n boards : ℕ) (before now : Option (List ℕ)) → Appends before now (row_lines form head column count n)
+    → boards ≡ count n → boards ≡ 0 → Appends before now (row_lines form head column count (n + 1))
+unfolding row_lines
+row-skip form head column count n boards before now so_far is none =
+    lines-skip (place_line form head column count) n before now so_far (share-none (share_text form head (column_member column (number_at column n))) boards (count n) is none)
+
+-- or some have it, and their line
+pub row-more : (form : Form) (head : List Named) (column : Column) (count : ℕ → ℕ) (n boards : ℕ) (share : Named) (before now after : Option (List ℕ)) → Appends before now (row_lines form head column count n)
+    → boards ≡ count n → 0 < boards → share ≡ column_member column (number_at column n) → Appends now after (share_text form head share boards ++ 10 ∷ []) → Appends before after (row_lines form head column count (n + 1))
+unfolding row_lines
+row-more form head column count n boards share before now after so_far is some own line =
+    lines-next (place_line form head column count) n before now after so_far
+    (subst (Appends now after) (ap (λ m. share_text form head m boards ++ 10 ∷ []) own ∙ sym (share-some (share_text form head (column_member column (number_at column n))) boards (count n) is some)) line)

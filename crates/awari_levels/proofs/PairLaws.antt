@@ -1,5 +1,6 @@
 -- The lines of a table, and what was asked for.
-use Rattle.std.proofs.Common.{◌≡◌, ℕ, ◌+◌, ◌<◌, true, false, Bor, List, [], ◌∷◌, ◌++◌, Option, Some, ℤ, sym, ◌∙◌, ap, subst}
+use Rattle.std.proofs.Common.{◌≡◌, ℕ, ◌+◌, ◌-◌, ◌*◌, ◌<◌, ◌≤◌, true, false, Bor, List, [], ◌∷◌, ◌++◌, length, take, drop, get_or, Option, Some, sym, ◌∙◌, ap, subst, arith}
+use Rattle.std.proofs.lemmas.List.{get_or-drop, get_or-take, length-drop, length-take-le}
 use Rattle.std.specs.Io.KnownBytes.{Appends}
 use Rattle.std.specs.List.{flat_map, range_with_len}
 use Rattle.awari_facts.specs.Sources.{limit_of}
@@ -10,41 +11,49 @@ use Rattle.awari_queries.specs.declared.columns.Pair.{Pair}
 use Rattle.awari_queries.specs.declared.questions.CountsQuery.{CountsQuery}
 use Rattle.awari_rank.specs.Tuples.{tuples}
 use Rattle.awari_table.specs.declared.images.Image.{Image}
-use Rattle.awari_levels.proofs.LineLaws.{lines-next, lines-skip, share-none, share-some}
-use Rattle.awari_levels.specs.Pairs.{AppendsPairs, PrintsPairs, PrintsPairsBy, PrintsPairsSaid, boards_with, cell_line, header_of, pair_lines, pair_text, row_lines}
+use Rattle.awari_levels.specs.Pairs.{AppendsPairs, PrintsPairs, PrintsPairsBy, PrintsPairsSaid, boards_with, header_of, pair_lines, pair_row}
 use Rattle.awari_levels.specs.Ranges.{number_at, width_of}
-use Rattle.awari_levels.specs.Tables.{AreTabled}
+use Rattle.awari_levels.specs.Rows.{column_member, row_lines}
+use Rattle.awari_levels.proofs.CellLaws.{row-within}
+use Rattle.awari_levels.specs.Tables.{AreTabled, cells_of, columns_of, rows_of}
 use Rattle.awari_levels.specs.declared.tables.Table.{Table}
 
-pub row-all : (form : Form) (pair : Pair) (images : List Image) (level limit row n : ℕ) (before after : Option (List ℕ)) → n ≡ width_of limit pair.second
-    → Appends before after (flat_map (cell_line form pair images level row) (range_with_len 0 n)) → Appends before after (row_lines form pair images level limit row)
-unfolding row_lines
-row-all form pair images level limit row n before after is all =
-    subst (λ m. Appends before after (flat_map (cell_line form pair images level row) (range_with_len 0 m))) is all
+-- the numbers of a row of the table
+part-long : (xs : List ℕ) (a w n : ℕ) → a + w ≤ length xs → n ≡ w → length (take n (drop a xs)) ≡ w
+part-long xs a w n inside is = length-take-le n (drop a xs) (omega (arith, inside, is, length-drop a xs)) ∙ is
+
+part-read : (xs : List ℕ) (a w n k : ℕ) → n ≡ w → k < w → get_or (take n (drop a xs)) k 0 ≡ get_or xs (a + k) 0
+part-read xs a w n k is below = get_or-take n (drop a xs) k 0 (omega (arith, is, below)) ∙ get_or-drop a xs k 0
+
+pub row-wide : (i w : ℕ) → (i + 1) * w - i * w ≡ w
+row-wide i w =
+    let next : (i + 1) * w ≡ i * w + w = omega arith in
+    omega (arith, next)
+
+-- the lines of that row
+pub row-all : (form : Form) (table : Table) (images : List Image) (counts : List ℕ) (i w a n : ℕ) (before after : Option (List ℕ)) → length counts ≡ cells_of table → i < rows_of table → AreTabled images table (tuples 12 table.level) counts
+    → w ≡ columns_of table → a ≡ i * w → n ≡ w
+    → ((boards : ℕ → ℕ) → ((k : ℕ) → k < length (take n (drop a counts)) → get_or (take n (drop a counts)) k 0 ≡ boards k)
+    → Appends before after (row_lines form (column_member table.pair.first (number_at table.pair.first i) ∷ []) table.pair.second boards (length (take n (drop a counts)))))
+    → Appends before after (pair_row form table.pair images table.level table.limit i)
+row-all form table images counts i w a n before after sized inside are wide at same lines =
+    subst (λ m. Appends before after (row_lines form (column_member table.pair.first (number_at table.pair.first i) ∷ []) table.pair.second boards m)) (long ∙ wide) (lines boards each)
+  where
+    boards : ℕ → ℕ
+    boards j = boards_with images table.pair.first table.pair.second (number_at table.pair.first i) (number_at table.pair.second j) table.level
+
+    long : length (take n (drop a counts)) ≡ w
+    long = part-long counts a w n (omega (arith, sized, at, row-within (rows_of table) (columns_of table) i inside, ap (λ v. i * v) wide, wide)) same
+
+    each : (k : ℕ) → k < length (take n (drop a counts)) → get_or (take n (drop a counts)) k 0 ≡ boards k
+    each k below =
+        part-read counts a w n k same (omega (arith, below, long)) ∙ ap (λ m. get_or counts (m + k) 0) (at ∙ ap (λ v. i * v) wide) ∙ are.each i k inside (omega (arith, below, long, wide))
 
 pub table-all : (form : Form) (pair : Pair) (images : List Image) (level limit n : ℕ) (before after : Option (List ℕ)) → n ≡ width_of limit pair.first
-    → Appends before after (header_of form pair ++ flat_map (row_lines form pair images level limit) (range_with_len 0 n)) → Appends before after (pair_lines form pair images level limit)
+    → Appends before after (header_of form pair ++ flat_map (pair_row form pair images level limit) (range_with_len 0 n)) → Appends before after (pair_lines form pair images level limit)
 unfolding pair_lines
 table-all form pair images level limit n before after is all =
-    subst (λ m. Appends before after (header_of form pair ++ flat_map (row_lines form pair images level limit) (range_with_len 0 m))) is all
-
--- one place more: no board has its numbers
-pub cell-skip : (form : Form) (pair : Pair) (images : List Image) (level row n boards : ℕ) (before now : Option (List ℕ)) → Appends before now (flat_map (cell_line form pair images level row) (range_with_len 0 n))
-    → boards ≡ boards_with images pair.first pair.second (number_at pair.first row) (number_at pair.second n) level → boards ≡ 0
-    → Appends before now (flat_map (cell_line form pair images level row) (range_with_len 0 (n + 1)))
-cell-skip form pair images level row n boards before now so_far is none =
-    lines-skip (cell_line form pair images level row) n before now so_far (share-none (pair_text form pair (number_at pair.first row) (number_at pair.second n)) boards _ is none)
-
--- or some have them, and their line
-pub cell-line : (form : Form) (pair : Pair) (images : List Image) (level row n boards : ℕ) (i j : ℤ) (before now after : Option (List ℕ))
-    → Appends before now (flat_map (cell_line form pair images level row) (range_with_len 0 n))
-    → boards ≡ boards_with images pair.first pair.second (number_at pair.first row) (number_at pair.second n) level → 0 < boards → i ≡ number_at pair.first row → j ≡ number_at pair.second n
-    → Appends now after (pair_text form pair i j boards ++ 10 ∷ []) → Appends before after (flat_map (cell_line form pair images level row) (range_with_len 0 (n + 1)))
-cell-line form pair images level row n boards i j before now after so_far is some first second line =
-    let here : pair_text form pair i j boards ++ 10 ∷ [] ≡ cell_line form pair images level row n =
-    ap (λ k. pair_text form pair k j boards ++ 10 ∷ []) first ∙ ap (λ k. pair_text form pair (number_at pair.first row) k boards ++ 10 ∷ []) second
-    ∙ sym (share-some (pair_text form pair (number_at pair.first row) (number_at pair.second n)) boards _ is some) in
-    lines-next (cell_line form pair images level row) n before now after so_far (subst (Appends now after) here line)
+    subst (λ m. Appends before after (header_of form pair ++ flat_map (pair_row form pair images level limit) (range_with_len 0 m))) is all
 
 -- ---- what was asked for
 

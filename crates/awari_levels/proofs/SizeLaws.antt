@@ -1,9 +1,10 @@
--- The numbers of boards of all pairs of numbers come to the level's size.
-use Rattle.std.proofs.Common.{◌≡◌, ◌≢◌, ℕ, ◌+◌, ◌-◌, ◌<◌, ◌≤◌, Bool, true, false, cond, List, [], length, take, get_or, count_by, sum, All, neg_ℤ, ◌≤ℤ◌, Option, Some, None, slice_get, ℤ, pos, ◌-ℤ◌, negsuc, refl, sym, ◌∙◌, ap, subst, arith}
+-- The numbers of boards of all values, of all distances, of all pairs of numbers, and of those won, even and lost come to the level's size.
+use Rattle.std.proofs.Common.{◌≡◌, ◌≢◌, ℕ, zero, suc, ◌+◌, ◌-◌, ◌==◌, ◌<◌, ◌≤◌, Bool, true, false, cond, List, [], ◌∷◌, length, int_lt, take, get_or, count_by, sum, All, neg_ℤ, ◌≤ℤ◌, Option, Some, None, slice_get, ℤ, pos, ◌-ℤ◌, negsuc, refl, sym, ◌∙◌, ap, subst, arith}
 use Rattle.std.proofs.lemmas.Int.{ints}
 use Rattle.std.proofs.lemmas.List.{length-map, length-take-le}
 use Rattle.std.proofs.lemmas.List.Elements.{All-from_get_or}
-use Rattle.std.proofs.lemmas.List.Sums.{count_by-le-length}
+use Rattle.std.proofs.lemmas.List.Sums.{count_by-le-length, sum_by-cons}
+use Rattle.std.proofs.lemmas.Bool.Decides.{nat_tests}
 use Rattle.std.proofs.lemmas.Option.{get_or_from_slice_get, slice_get-get_or, slice_get_within}
 use Rattle.std.specs.Prelude.{IfSome}
 use Rattle.std.specs.Ordering.{int_eq}
@@ -23,12 +24,13 @@ use Rattle.awari_rank.specs.Rank.{rank_of, size_of}
 use Rattle.awari_rank.specs.Tuples.{total, tuples}
 use Rattle.awari_table.proofs.CertificateLemmas.{right_from_shelf}
 use Rattle.awari_table.proofs.ShelfLemmas.{Consistent-level, entry_of-read}
-use Rattle.awari_table.specs.Images.{entry_of, no_entry}
+use Rattle.awari_table.specs.Images.{entry_of, even_boards, lost_boards, no_entry, won_boards}
 use Rattle.awari_table.specs.Shelves.{Consistent, IsShelf}
 use Rattle.awari_table.specs.declared.images.Entry.{Entry}
 use Rattle.awari_table.specs.declared.images.Image.{Image}
 use Rattle.awari_levels.proofs.CellLaws.{number-key}
-use Rattle.awari_levels.proofs.KeyLaws.{HasKey, above_each, total-both, total-counts}
+use Rattle.awari_levels.proofs.KeyLaws.{HasKey, above_each, one_if, total-both, total-counts}
+use Rattle.awari_levels.specs.Counts.{boards_of_distance, boards_of_value}
 use Rattle.awari_levels.specs.Pairs.{boards_with}
 use Rattle.awari_levels.specs.Ranges.{below_of, number_at, width_of}
 
@@ -85,6 +87,18 @@ rank-inside : (board : List ℕ) → IsBoard board → rank_of board < size_of (
 unfolding size_of
 rank-inside board whole = slice_get_within (tuples 12 (sum board)) (rank_of board) board (listed_board board whole.pits)
 
+-- ---- lost, even or won
+
+one-sign : (v : ℤ) → one_if (int_lt (pos 0) v) + one_if (int_eq v (pos 0)) + one_if (int_lt v (pos 0)) ≡ 1
+one-sign (pos zero) = refl
+one-sign (pos (suc n)) = grind (arith, nat_tests)
+one-sign (negsuc n) = refl
+
+signs-sum : (entries : List Entry) → won_boards entries + even_boards entries + lost_boards entries ≡ length entries
+signs-sum [] = refl
+signs-sum (e ∷ es) =
+    omega (arith, signs-sum es, one-sign e.value, sum_by-cons (λ x. one_if (int_lt (pos 0) x.value)) e es, sum_by-cons (λ x. one_if (int_eq x.value (pos 0))) e es, sum_by-cons (λ x. one_if (int_lt x.value (pos 0))) e es)
+
 -- the boards of a level of a shelf
 module _ (images : List Image) (image : Image) (level : ℕ) (shelf : IsShelf images) (found : slice_get images level ≡ Some image) where
   known : level < length images
@@ -99,19 +113,31 @@ module _ (images : List Image) (image : Image) (level : ℕ) (shelf : IsShelf im
   sized : length image.entries ≡ size_of level
   sized = consistent.sized ∙ ap size_of (consistent.next ∙ length-take-le level images (omega (arith, known)))
 
+  -- the board of an entry
+  reached : (i : ℕ) → i < length image.entries → (p : List ℕ) × IsBoard p × (sum p ≡ level) × (get_or image.entries i no_entry ≡ entry_of images p)
+  reached i inside =
+      let (p, whole, stones, ranked) = board_reached level i low (omega (arith, inside, sized)) in
+      (p, whole, stones, entry_of-read images p image (get_or image.entries i no_entry) (rw stones found) (rw ranked (slice_get-get_or image.entries i no_entry inside)))
+
+  own-value : (board : List ℕ) → IsBoard board → sum board ≡ level → (j : ℕ) × (j < 256) × ((entry_of images board).value ≡ number_at Value j)
+  own-value board whole stones =
+      let right = right_from_shelf images shelf board whole (omega (arith, known, stones)) in
+      value-place (entry_of images board).value (sum board) (omega (arith, low, stones)) right.in_range.0 right.in_range.1
+
+  near : (i : ℕ) → i < length image.entries → (get_or image.entries i no_entry).dist ≤ image.limit
+  near i inside = omega (arith, consistent.limited, above_each (λ x. x.dist) image.entries 0 i (get_or image.entries i no_entry) (slice_get-get_or image.entries i no_entry inside))
+
   dist-few : (board : List ℕ) → IsBoard board → sum board ≡ level → (entry_of images board).dist ≤ image.limit
   dist-few board whole stones =
       let inside : rank_of board < length image.entries = omega (arith, sized, subst (λ n. rank_of board < size_of n) stones (rank-inside board whole)) in
-      let read = slice_get-get_or image.entries (rank_of board) no_entry inside in
-      let is = entry_of-read images board image (get_or image.entries (rank_of board) no_entry) (rw stones found) read in
-      omega (arith, consistent.limited, ap (λ (e : Entry). e.dist) is, above_each (λ x. x.dist) image.entries 0 (rank_of board) (get_or image.entries (rank_of board) no_entry) read)
+      let is = entry_of-read images board image (get_or image.entries (rank_of board) no_entry) (rw stones found) (slice_get-get_or image.entries (rank_of board) no_entry inside) in
+      omega (arith, near (rank_of board) inside, ap (λ (e : Entry). e.dist) is)
 
   placed-on : (column : Column) (board : List ℕ) → column ≢ Rank → IsBoard board → sum board ≡ level → HasPlace images image.limit column board
   unfolding number_in
   placed-on Rank board counted whole stones = absurd (counted refl)
   placed-on Value board counted whole stones =
-      let right = right_from_shelf images shelf board whole (omega (arith, known, stones)) in
-      let (j, below, is) = value-place (entry_of images board).value (sum board) (omega (arith, low, stones)) right.in_range.0 right.in_range.1 in
+      let (j, below, is) = own-value board whole stones in
       placed images image.limit Value board j below is
   placed-on Distance board counted whole stones =
       placed images image.limit Distance board (entry_of images board).dist (omega (arith, dist-few board whole stones)) (counted-from_0 (entry_of images board).dist)
@@ -144,3 +170,27 @@ module _ (images : List Image) (image : Image) (level : ℕ) (shelf : IsShelf im
       total_same (λ i. total (λ j. boards_with images pair.first pair.second (number_at pair.first i) (number_at pair.second j) level) (width_of image.limit pair.second)) (λ i. count_by (has_number images pair.first i) (tuples 12 level)) (width_of image.limit pair.first)
       (λ i below. total-both (has_number images pair.first i) (has_number images pair.second) (width_of image.limit pair.second) (tuples 12 level) (all_placed pair.second other))
       ∙ total-counts (has_number images pair.first) (width_of image.limit pair.first) (tuples 12 level) (all_placed pair.first one)
+
+  pub values-sum : total (λ place. boards_of_value image.entries (number_at Value place)) 256 ≡ size_of level
+  values-sum = total-counts test 256 image.entries (All-from_get_or (HasKey test 256) image.entries no_entry keyed) ∙ sized
+    where
+      test : ℕ → Entry → Bool
+      test k e = int_eq e.value (number_at Value k)
+
+      keyed : (i : ℕ) → i < length image.entries → HasKey test 256 (get_or image.entries i no_entry)
+      keyed i inside =
+          let (p, whole, stones, same) = reached i inside in
+          let (j, below, is) = own-value p whole stones in
+          record { key = j; below = below; is = λ k. ap (λ v. int_eq v (number_at Value k)) (ap (λ (e : Entry). e.value) same ∙ is) ∙ number-key 128 j k }
+
+  pub distances-sum : total (boards_of_distance image.entries) (image.limit + 1) ≡ size_of level
+  distances-sum = total-counts test (image.limit + 1) image.entries (All-from_get_or (HasKey test (image.limit + 1)) image.entries no_entry keyed) ∙ sized
+    where
+      test : ℕ → Entry → Bool
+      test k e = e.dist == k
+
+      keyed : (i : ℕ) → i < length image.entries → HasKey test (image.limit + 1) (get_or image.entries i no_entry)
+      keyed i inside = record { key = (get_or image.entries i no_entry).dist; below = omega (arith, near i inside); is = λ k. refl }
+
+  pub shares-sum : won_boards image.entries + even_boards image.entries + lost_boards image.entries ≡ size_of level
+  shares-sum = signs-sum image.entries ∙ sized

@@ -1,9 +1,10 @@
 -- The entries of a level, counted one by one.
-use Rattle.std.proofs.Common.{◌≡◌, ◌==◌, Bool, ℕ, replicate, ◌+◌, ◌<◌, List, [], ◌∷◌, ◌++◌, length, get_or, slice_get, Option, Some, None, refl, sym, ap, subst, ◌∙◌, arith, inl, inr}
+use Rattle.std.proofs.Common.{◌≡◌, ◌==◌, Bool, ℕ, zero, suc, replicate, ◌+◌, ◌<◌, ◌≤◌, List, [], ◌∷◌, ◌++◌, length, get_or, set, slice_get, Option, Some, None, refl, sym, ap, subst, ◌∙◌, arith, inl, inr}
 use Rattle.std.specs.Ordering.{int_eq}
 use Rattle.std.specs.Prelude.{IsSomeAnd}
 use Rattle.std.proofs.lemmas.Bool.{cases_lt}
-use Rattle.std.proofs.lemmas.List.{ext_get_or, length-replicate, get_or_append_left, get_or_push, length-append}
+use Rattle.std.proofs.lemmas.List.{ext_get_or, length-replicate, length-set, get_or_append_left, get_or_push, length-append}
+use Rattle.std.proofs.lemmas.List.Sums.{count_by-le-length}
 use Rattle.std.proofs.lemmas.List.FromFn.{length-map-range_with_len}
 use Rattle.std.proofs.lemmas.Option.{get_or_from_slice_get, slice_get_within}
 use Rattle.awari_folder.specs.Contents.{Same}
@@ -17,8 +18,9 @@ use Rattle.awari_table.specs.Images.{no_entry, no_image}
 use Rattle.awari_table.specs.declared.images.Entry.{Entry}
 use Rattle.awari_table.specs.declared.images.Image.{Image}
 use Rattle.awari_answers.specs.LevelLines.{IsToldOf}
-use Rattle.awari_levels.proofs.ShareLaws.{counted-none, zeros-replicate}
-use Rattle.awari_levels.specs.Counts.{value_at}
+use Rattle.awari_levels.proofs.KeyLaws.{counted-push}
+use Rattle.awari_levels.specs.Ranges.{number_at}
+use Rattle.awari_queries.specs.declared.columns.Column.TheVariants.{Value}
 use Rattle.awari_facts.specs.Sources.{limit_of}
 use Rattle.awari_levels.specs.Numbers.{AreNumbersOf}
 use Rattle.awari_levels.specs.declared.counts.Numbers.{Numbers}
@@ -29,6 +31,26 @@ use Rattle.awari_facts.specs.declared.sources.Source.{Source}
 use Rattle.awari_facts.specs.declared.sources.Source.TheVariants.{Memory, Files}
 use Rattle.awari_levels.specs.declared.tallies.Tally.{Tally}
 
+pub counted-none : (test : ℕ → Entry → Bool) (n : ℕ) (counts : List ℕ) → length counts ≡ n → ((k : ℕ) → k < n → get_or counts k 0 ≡ 0) → AreCounted test n [] counts
+counted-none test n counts long zeros = record { long = long; each = zeros }
+
+-- no number is above that of the entries
+pub counted-few : (test : ℕ → Entry → Bool) (n : ℕ) (entries : List Entry) (counts : List ℕ) (j : ℕ) → AreCounted test n entries counts → j < n → get_or counts j 0 ≤ length entries
+counted-few test n entries counts j are below = omega (arith, are.each j below, count_by-le-length (test j) entries)
+
+-- one entry more, whose key is j
+pub counted-more : (test : ℕ → Entry → Bool) (n : ℕ) (entries : List Entry) (counts next : List ℕ) (j : ℕ) (e : Entry) → AreCounted test n entries counts → j < n → ((k : ℕ) → k < n → test k e ≡ (j == k))
+    → next ≡ set counts j (get_or counts j 0 + 1) → AreCounted test n (entries ++ e ∷ []) next
+counted-more test n entries counts next j e are below key is = record {
+  long = ap length is ∙ length-set counts j (get_or counts j 0 + 1) ∙ are.long;
+  each = λ k inside. counted-push (test k) entries e counts next j k (omega (arith, are.long, below)) is (key k inside) (are.each k inside);
+}
+
+pub zeros-replicate : (n k : ℕ) → k < n → get_or {A = ℕ} (replicate n 0) k 0 ≡ 0
+zeros-replicate zero k below = absurd (omega (arith, below))
+zeros-replicate (suc n) zero below = refl
+zeros-replicate (suc n) (suc k) below = zeros-replicate n k (omega (arith, below))
+
 zeros-counted : (test : ℕ → Entry → Bool) (n : ℕ) (counts : List ℕ) → counts ≡ replicate n 0 → AreCounted test n [] counts
 zeros-counted test n counts is = counted-none test n counts (ap length is ∙ length-replicate n 0) (λ k lt. ap (λ (xs : List ℕ). get_or xs k 0) is ∙ zeros-replicate n k lt)
 
@@ -36,7 +58,7 @@ zeros-counted test n counts is = counted-none test n counts (ap length is ∙ le
 pub tally-none : (limit : ℕ) (tally : Tally) → tally.signs ≡ replicate 3 0 → tally.values ≡ replicate 256 0 → tally.distances.items ≡ replicate (limit + 1) 0 → IsTallyOf limit [] tally
 tally-none limit tally signs values distances = record {
   signs = zeros-counted (λ k e. has_sign k e.value) 3 tally.signs signs;
-  values = zeros-counted (λ k e. int_eq e.value (value_at k)) 256 tally.values values;
+  values = zeros-counted (λ k e. int_eq e.value (number_at Value k)) 256 tally.values values;
   distances = zeros-counted (λ k e. e.dist == k) (limit + 1) tally.distances.items distances;
 }
 

@@ -1,12 +1,12 @@
 -- The command `counts`: how many boards of a level have each value and each distance, and what is printed of that.
-use Rattle.std.specs.Prelude.{◌≡◌, ℕ, ◌+◌, ◌==◌, Bool, true, false, List, length, ◌++◌, ◌∷◌, [], count_by, slice_get, codes, ℤ, pos, ◌-ℤ◌, Option, Some, None, IsSomeAnd}
+use Rattle.std.specs.Prelude.{◌≡◌, ℕ, ◌+◌, ◌==◌, Bool, true, false, List, length, ◌++◌, ◌∷◌, [], count_by, slice_get, codes, ℤ, Option, Some, None, IsSomeAnd}
 use Rattle.std.specs.Io.KnownBytes.{Appends}
-use Rattle.std.specs.List.{flat_map, range_with_len}
+use Rattle.std.specs.List.{flat_map}
 use Rattle.std.specs.Ordering.{int_eq}
 use Rattle.awari_answers.specs.Asked.{AreLevelsTo}
 use Rattle.awari_answers.specs.LevelLines.{level_members}
 use Rattle.awari_answers.specs.declared.telling.LevelLine.{LevelLine}
-use Rattle.awari_members.specs.Members.{Named, line_text, number, share_line, signed, text}
+use Rattle.awari_members.specs.Members.{line_text}
 use Rattle.awari_members.specs.declared.forms.Form.{Form}
 use Rattle.awari_members.specs.declared.forms.Form.TheVariants.{Text, Csv, Json}
 use Rattle.awari_table.specs.Images.{even_boards, lost_boards, won_boards}
@@ -15,6 +15,9 @@ use Rattle.awari_table.specs.declared.images.Entry.{Entry}
 use Rattle.awari_table.specs.declared.images.Image.{Image}
 use Rattle.awari_facts.specs.Loads.{HasLevel}
 use Rattle.awari_facts.specs.Sources.{AreSaid, IsSaidOf}
+use Rattle.awari_levels.specs.Ranges.{number_at}
+use Rattle.awari_levels.specs.Rows.{head_of, row_lines}
+use Rattle.awari_queries.specs.declared.columns.Column.TheVariants.{Value, Distance}
 
 -- how many boards have this value, and how many this distance
 abbrev pub boards_of_value : List Entry → ℤ → ℕ
@@ -22,24 +25,6 @@ boards_of_value entries value = count_by (λ e. int_eq e.value value) entries
 
 abbrev pub boards_of_distance : List Entry → ℕ → ℕ
 boards_of_distance entries distance = count_by (λ e. e.dist == distance) entries
-
--- the values that a byte has, by a number below 256
-abbrev pub value_at : ℕ → ℤ
-value_at place = pos place -ℤ pos 128
-
--- all members of a line in CSV, else those behind the first
-abbrev pub told_in : Form → List Named → List Named
-told_in form [] = []
-told_in Text (m ∷ members) = members
-told_in Csv (m ∷ members) = m ∷ members
-told_in Json (m ∷ members) = members
-
--- how many boards have a value, and a distance, in CSV behind its column's name
-unfoldable pub shown_value : Form → ℤ → ℕ → List ℕ
-shown_value form value boards = line_text form (told_in form (text (codes "column") (codes "value") ∷ signed (codes "value") value ∷ number (codes "boards") boards ∷ []))
-
-unfoldable pub shown_distance : Form → ℕ → ℕ → List ℕ
-shown_distance form distance boards = line_text form (told_in form (text (codes "column") (codes "distance") ∷ number (codes "distance") distance ∷ number (codes "boards") boards ∷ []))
 
 -- what is told of a level
 abbrev pub shown_told : Form → LevelLine → List ℕ
@@ -76,11 +61,11 @@ top_of Json told = shown_told Json told ++ 10 ∷ []
 
 -- a line for each value that a board has, ascending
 unfoldable pub value_lines : Form → List Entry → List ℕ
-value_lines form entries = flat_map (λ place. share_line (shown_value form (value_at place)) (boards_of_value entries (value_at place))) (range_with_len 0 256)
+value_lines form entries = row_lines form (head_of form Value) Value (λ place. boards_of_value entries (number_at Value place)) 256
 
 -- a line for each distance that a board has, ascending, up to a limit
 unfoldable pub distance_lines : Form → ℕ → List Entry → List ℕ
-distance_lines form limit entries = flat_map (λ distance. share_line (shown_distance form distance) (boards_of_distance entries distance)) (range_with_len 0 (limit + 1))
+distance_lines form limit entries = row_lines form (head_of form Distance) Distance (boards_of_distance entries) (limit + 1)
 
 -- the lines of a level's values and distances below what stands above them
 unfoldable pub count_lines : Form → Image → List ℕ

@@ -7,6 +7,8 @@ pub mod Listing
 pub mod Numbers
 pub mod Pairs
 pub mod Ranges
+pub mod RowHeads
+pub mod Rows
 pub mod Segments
 pub mod Tables
 pub mod Tallies

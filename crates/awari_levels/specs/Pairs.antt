@@ -1,25 +1,23 @@
 -- The command `counts --by`: how many boards of a level have each pair of numbers of two columns, and what is printed of that.
-use Rattle.std.specs.Prelude.{◌≡◌, ℕ, if◌then◌else◌, Bool, true, false, ◌&&◌, List, ◌++◌, ◌∷◌, [], count_by, codes, ℤ, pos, int_lt, Option, Some}
+use Rattle.std.specs.Prelude.{◌≡◌, ℕ, Bool, true, false, ◌&&◌, List, ◌++◌, ◌∷◌, [], count_by, codes, ℤ, Option, Some}
 use Rattle.std.specs.Borrow.{Bor}
-use Rattle.std.specs.Fmt.{signed_decimal}
 use Rattle.std.specs.Io.KnownBytes.{Appends}
 use Rattle.std.specs.List.{flat_map, range_with_len}
 use Rattle.std.specs.Ordering.{int_eq}
 use Rattle.awari_facts.specs.Loads.{HasLevel}
 use Rattle.awari_facts.specs.Numbers.{number_in}
 use Rattle.awari_facts.specs.Sources.{IsSaidOf, limit_of}
-use Rattle.awari_members.specs.Members.{Named, line_text, missing, number, share_line}
 use Rattle.awari_members.specs.Forms.{form_of}
 use Rattle.awari_queries.specs.Columns.{AsksForPair, name_of}
 use Rattle.awari_members.specs.declared.forms.Form.{Form}
 use Rattle.awari_members.specs.declared.forms.Form.TheVariants.{Text, Csv, Json}
 use Rattle.awari_queries.specs.declared.columns.Column.{Column}
-use Rattle.awari_queries.specs.declared.columns.Column.TheVariants.{Rank, Value, Distance, Plan, Captures, Moves, Keep}
 use Rattle.awari_queries.specs.declared.columns.Pair.{Pair}
 use Rattle.awari_queries.specs.declared.questions.CountsQuery.{CountsQuery}
 use Rattle.awari_rank.specs.Tuples.{tuples}
 use Rattle.awari_table.specs.declared.images.Image.{Image}
 use Rattle.awari_levels.specs.Ranges.{number_at, width_of}
+use Rattle.awari_levels.specs.Rows.{column_member, row_lines}
 
 -- the board has these numbers of two columns
 abbrev pub has_pair : List Image → Column → Column → ℤ → ℤ → List ℕ → Bool
@@ -28,27 +26,6 @@ has_pair images first second i j board = int_eq (number_in images first board) i
 -- how many boards of a level have them: `tuples 12 level` are the boards with this many stones
 abbrev pub boards_with : List Image → Column → Column → ℤ → ℤ → ℕ → ℕ
 boards_with images first second i j level = count_by (has_pair images first second i j) (tuples 12 level)
-
--- there is no such number: -1 stands for no plan
-abbrev pub is_none : Column → ℤ → Bool
-is_none Rank n = false
-is_none Value n = false
-is_none Distance n = false
-is_none Plan n = int_lt n (pos 0)
-is_none Captures n = int_lt n (pos 0)
-is_none Moves n = false
-is_none Keep n = false
-
--- a column with its number, or with what stands for none
-abbrev pub column_member : Column → ℤ → Named
-column_member column n = record { name = name_of column; value = if is_none column n then missing else (λ form. signed_decimal n) }
-
--- two numbers, and how many boards have them
-abbrev pub pair_members : Pair → ℤ → ℤ → ℕ → List Named
-pair_members pair i j boards = column_member pair.first i ∷ column_member pair.second j ∷ number (codes "boards") boards ∷ []
-
-abbrev pub pair_text : Form → Pair → ℤ → ℤ → ℕ → List ℕ
-pair_text form pair i j boards = line_text form (pair_members pair i j boards)
 
 -- the names of two columns, and of the number of boards
 abbrev pub names_text : Pair → List ℕ
@@ -60,18 +37,14 @@ header_of Text pair = []
 header_of Csv pair = names_text pair ++ 10 ∷ []
 header_of Json pair = []
 
--- the line of the numbers at two places
-abbrev pub cell_line : Form → Pair → List Image → ℕ → ℕ → ℕ → List ℕ
-cell_line form pair images level i j =
-    share_line (pair_text form pair (number_at pair.first i) (number_at pair.second j)) (boards_with images pair.first pair.second (number_at pair.first i) (number_at pair.second j) level)
-
 -- the lines of one number of the first column, by the second, where no distance is above the limit
-unfoldable pub row_lines : Form → Pair → List Image → ℕ → ℕ → ℕ → List ℕ
-row_lines form pair images level limit i = flat_map (cell_line form pair images level i) (range_with_len 0 (width_of limit pair.second))
+abbrev pub pair_row : Form → Pair → List Image → ℕ → ℕ → ℕ → List ℕ
+pair_row form pair images level limit i =
+    row_lines form (column_member pair.first (number_at pair.first i) ∷ []) pair.second (λ j. boards_with images pair.first pair.second (number_at pair.first i) (number_at pair.second j) level) (width_of limit pair.second)
 
 -- a line for each pair of numbers that a board has, by the first and then by the second
 unfoldable pub pair_lines : Form → Pair → List Image → ℕ → ℕ → List ℕ
-pair_lines form pair images level limit = header_of form pair ++ flat_map (row_lines form pair images level limit) (range_with_len 0 (width_of limit pair.first))
+pair_lines form pair images level limit = header_of form pair ++ flat_map (pair_row form pair images level limit) (range_with_len 0 (width_of limit pair.first))
 
 -- What was written are these lines of a level, up to its limit, of the two columns and in the form that are asked for.
 pub record AppendsPairs (query : CountsQuery) (level : ℕ) (images : List Image) (before after : Option (List ℕ)) : Type 0 where

@@ -4,7 +4,8 @@ use Rattle.std.specs.Ordering.{int_eq}
 use Rattle.awari_rank.specs.Rank.{size_of}
 use Rattle.awari_table.specs.declared.images.Entry.{Entry}
 use Rattle.awari_table.specs.declared.images.Image.{Image}
-use Rattle.awari_levels.specs.Counts.{value_at}
+use Rattle.awari_levels.specs.Ranges.{number_at}
+use Rattle.awari_queries.specs.declared.columns.Column.TheVariants.{Value}
 use Rattle.awari_facts.specs.Sources.{SaysBy}
 use Rattle.awari_facts.specs.declared.sources.Source.{Source}
 use Rattle.awari_levels.specs.declared.tallies.Tally.{Tally}
@@ -24,7 +25,7 @@ abbrev pub AreBySign : List Entry → List ℕ → Type 0
 AreBySign = AreCounted (λ k e. has_sign k e.value) 3
 
 abbrev pub AreByValue : List Entry → List ℕ → Type 0
-AreByValue = AreCounted (λ k e. int_eq e.value (value_at k)) 256
+AreByValue = AreCounted (λ k e. int_eq e.value (number_at Value k)) 256
 
 -- up to a limit
 abbrev pub AreByDistance : ℕ → List Entry → List ℕ → Type 0

@@ -9,20 +9,21 @@ ghost use Rattle.awari_rank.specs.Rank.{size_of};
 ghost use Rattle.awari_table.specs.declared.TheConstants.{HIGHEST_LEVEL};
 ghost use Rattle.awari_table.specs.declared.images.Entry.{Entry as AnEntry};
 ghost use Rattle.awari_table.specs.declared.images.Image.{Image};
-ghost use Rattle.awari_levels.specs.Counts.{AppendsCounts, PrintsCountsBy, PrintsCountsSaid, count_lines, distance_lines, shown_levels, value_lines};
+ghost use Rattle.awari_levels.specs.Counts.{AppendsCounts, PrintsCountsBy, PrintsCountsSaid, count_lines, shown_levels};
 ghost use Rattle.awari_members.specs.Forms.{form_of};
 ghost use Rattle.awari_levels.specs.Numbers.{AreNumbersOf, HasLevels, HasOpened};
 ghost use Rattle.awari_facts.specs.Sources.{SaysBy, levels_of};
-ghost use Rattle.awari_levels.specs.Tallies.{AreByDistance, AreByValue, IsTallyOf};
+ghost use Rattle.awari_levels.specs.Tallies.{IsTallyOf};
 
-use crate::shown::{print_distance, print_level, print_names, print_top, print_value};
-use crate::tallies::{Tally, VALUES, tally_level, value_of};
+use crate::rows::{Row, print_row};
+use crate::shown::{print_level, print_names, print_top};
+use crate::tallies::{Tally, tally_level};
 use awari_answers::{LevelLine, NoAnswer, Replies, load_levels, refuse_level, status_of};
 use awari_facts::{Levels, Source, count_levels, load_to, open_all, open_to, read_limit};
 use awari_folder::{Folder, FolderFault};
 use awari_members::{Form, form_of};
 use awari_places::Opened;
-use awari_queries::CountsQuery;
+use awari_queries::{Column, CountsQuery};
 use awari_rank::size;
 use awari_table::{Counts, HIGHEST_LEVEL, Shelf};
 use std::alloc::Global;
@@ -34,43 +35,6 @@ use std::thread::Threads;
 struct Numbers {
     told: LevelLine,
     tally: Tally,
-}
-
-/// Prints a line for each value that some boards have, and says whether the writer took them. These are
-/// how many boards have each.
-fn print_values<W: Write>(counts: &[u32], form: Form, writer: &mut W) -> bool
-    requires { length counts.now ≡ VALUES }
-    ensures { (entries : List AnEntry) → AreByValue entries counts.now → result ≡ true → Appends (W.contents writer.old) (W.contents writer.new) (value_lines form entries) }
-{
-    for place in 0..VALUES {
-        let boards = counts[place];
-        if boards == 0 {
-            continue;
-        }
-        let value = value_of(place);
-        if !print_value(value, boards, form, writer) {
-            return false;
-        }
-    }
-    true
-}
-
-/// Prints a line for each distance up to the limit that some boards have, and says whether the writer took
-/// them. These are how many boards have each.
-fn print_distances<W: Write>(limit: u32, counts: &[u32], form: Form, writer: &mut W) -> bool
-    requires { length counts.now ≡ limit + 1 }
-    ensures { (entries : List AnEntry) → AreByDistance limit entries counts.now → result ≡ true → Appends (W.contents writer.old) (W.contents writer.new) (distance_lines form limit entries) }
-{
-    for place in 0..limit as usize + 1 {
-        let boards = counts[place];
-        if boards == 0 {
-            continue;
-        }
-        if !print_distance(place as u32, boards, form, writer) {
-            return false;
-        }
-    }
-    true
 }
 
 /// A level in numbers. Condition: the source has the level. It looks at each entry once, and takes memory
@@ -119,14 +83,23 @@ fn print_numbers<W: Write>(numbers: &Numbers, form: Form, writer: &mut W) -> boo
     requires { (entries : List AnEntry) × IsTallyOf numbers.now.told.limit entries numbers.now.tally }
     ensures { (image : Image) → AreNumbersOf image numbers.now → result ≡ true → Appends (W.contents writer.old) (W.contents writer.new) (count_lines form image) }
 {
-    let told = numbers.told;
-    if !print_top(told, form, writer) {
+    // For the proof: the limit has 32 bits.
+    let _limit = numbers.told.limit;
+    if !print_top(numbers.told, form, writer) {
         return false;
     }
-    if !print_values(&numbers.tally.values, form, writer) {
+    let values = Row {
+        beside: None,
+        column: Column::Value,
+    };
+    if !print_row(&numbers.tally.values, values, form, writer) {
         return false;
     }
-    print_distances(told.limit, numbers.tally.distances.as_slice(), form, writer)
+    let distances = Row {
+        beside: None,
+        column: Column::Distance,
+    };
+    print_row(numbers.tally.distances.as_slice(), distances, form, writer)
 }
 
 /// Prints the line of each level, and says whether the writer took them.

@@ -2,9 +2,9 @@
 //! function, which does nothing.
 
 ghost use Rattle.std.specs.Prelude.{◌≡◌, ◌≢◌, ◌+◌, ℕ, List, Some, slice_get};
-ghost use Rattle.awari_queries.specs.declared.columns.Column.TheVariants.{Rank};
+ghost use Rattle.awari_queries.specs.declared.columns.Column.TheVariants.{Rank, Value};
 ghost use Rattle.awari_queries.specs.declared.columns.Pair.{Pair as APair};
-ghost use Rattle.awari_levels.specs.Counts.{boards_of_distance, boards_of_value, value_at};
+ghost use Rattle.awari_levels.specs.Counts.{boards_of_distance, boards_of_value};
 ghost use Rattle.awari_levels.specs.Pairs.{boards_with};
 ghost use Rattle.awari_levels.specs.Ranges.{number_at, width_of};
 ghost use Rattle.awari_rank.specs.Rank.{size_of};
@@ -17,7 +17,7 @@ ghost use Rattle.awari_table.specs.declared.images.Image.{Image};
 /// the distances, and those of the boards that are won, even and lost.
 pub fn counts_come_to_the_size()
     ensures values { (images : List Image) (image : Image) (level : ℕ) → IsShelf images → slice_get images level ≡ Some image
-        → total (λ place. boards_of_value image.entries (value_at place)) 256 ≡ size_of level }
+        → total (λ place. boards_of_value image.entries (number_at Value place)) 256 ≡ size_of level }
     ensures distances { (images : List Image) (image : Image) (level : ℕ) → IsShelf images → slice_get images level ≡ Some image
         → total (boards_of_distance image.entries) (image.limit + 1) ≡ size_of level }
     ensures shares { (images : List Image) (image : Image) (level : ℕ) → IsShelf images → slice_get images level ≡ Some image

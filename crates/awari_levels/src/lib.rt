@@ -26,6 +26,7 @@ mod laws;
 mod listing;
 mod pairs;
 mod ranges;
+mod rows;
 mod segments;
 mod shown;
 mod tables;

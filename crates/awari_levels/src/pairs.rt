@@ -9,18 +9,19 @@ ghost use Rattle.awari_places.specs.Places.{Says};
 ghost use Rattle.awari_rank.specs.Tuples.{tuples};
 ghost use Rattle.awari_table.specs.declared.TheConstants.{HIGHEST_LEVEL};
 ghost use Rattle.awari_table.specs.declared.images.Image.{Image};
-ghost use Rattle.awari_levels.specs.Pairs.{PrintsPairsBy, header_of, pair_lines, row_lines};
-ghost use Rattle.awari_levels.specs.Tables.{AreTabled, IsOwn, cells_of, rows_of};
+ghost use Rattle.awari_levels.specs.Pairs.{PrintsPairsBy, header_of, pair_lines};
+ghost use Rattle.awari_levels.specs.Tables.{AreTabled, IsOwn, cells_of};
 ghost use Rattle.awari_levels.specs.Asking.{IsRefused, IsWish};
 
 use crate::cells::count_on;
-use crate::ranges::{number_at, width_of};
-use crate::shown::{Names, PairShare};
+use crate::ranges::width_of;
+use crate::rows::{Placed, Row, print_row};
+use crate::shown::Names;
 use crate::tables::{Table, count_own, wrong_limit};
 use awari_answers::{NoAnswer, Replies, print, refuse_level, status_of};
 use awari_facts::{Levels, is_own, levels_in, limit_on, load_to, open_to};
 use awari_folder::{Folder, FolderFault};
-use awari_members::{Form, Line, form_of};
+use awari_members::{Form, form_of};
 use awari_places::{limit_in_header, read_levels};
 use awari_queries::{CountsQuery, NoColumn, Pair, asked_pair};
 use awari_rank::size;
@@ -47,39 +48,6 @@ fn print_header<W: Write>(form: Form, pair: Pair, writer: &mut W) -> bool
     }
 }
 
-/// Prints a line for each number of the second column that some boards of a row have, and says whether the
-/// writer took them. These are how many boards are in each cell. Condition: the table has the row.
-fn print_row<W: Write>(counts: &[u32], table: Table, row: usize, form: Form, writer: &mut W) -> bool
-    requires long { length counts.now ≡ cells_of table }
-    requires row { row < rows_of table }
-    ensures { (images : List Image) → AreTabled images table (tuples 12 table.level) counts.now → result ≡ true
-        → Appends (W.contents writer.old) (W.contents writer.new) (row_lines form table.pair images table.level table.limit row) }
-{
-    let columns = width_of(table.pair.second, table.limit);
-    let first = number_at(table.pair.first, row);
-    for column in 0..columns {
-        let boards = counts[row * columns + column];
-        if boards == 0 {
-            continue;
-        }
-        let share = PairShare {
-            pair: table.pair,
-            first,
-            second: number_at(table.pair.second, column),
-            boards,
-        };
-        let members = share.members();
-        let line = Line {
-            members: &members,
-            form,
-        };
-        if !print(writer, &line) {
-            return false;
-        }
-    }
-    true
-}
-
 /// Prints a line for each pair of numbers that some boards have, and says whether the writer took them.
 /// These are how many boards are in each cell.
 fn print_table<W: Write>(counts: &[u32], table: Table, form: Form, writer: &mut W) -> bool
@@ -90,8 +58,19 @@ fn print_table<W: Write>(counts: &[u32], table: Table, form: Form, writer: &mut 
     if !print_header(form, table.pair, writer) {
         return false;
     }
-    for row in 0..width_of(table.pair.first, table.limit) {
-        if !print_row(counts, table, row, form, writer) {
+    let Pair { first, second } = table.pair;
+    let columns = width_of(second, table.limit);
+    for place in 0..width_of(first, table.limit) {
+        let boards = &counts[place * columns..(place + 1) * columns];
+        let beside = Placed {
+            column: first,
+            place: place as u32,
+        };
+        let row = Row {
+            beside: Some(beside),
+            column: second,
+        };
+        if !print_row(boards, row, form, writer) {
             return false;
         }
     }

@@ -45,11 +45,9 @@ pub(crate) fn place_of(column: Column, limit: u32, number: i64) -> Option<usize>
     Some((number + below) as usize)
 }
 
-/// The number at a place among those that a column may have. Condition: there are that many.
-pub(crate) fn number_at(column: Column, place: usize) -> i64
-    requires { place < 4294967297 }
+/// The number at a place among those that a column may have.
+pub(crate) fn number_at(column: Column, place: u32) -> i64
     ensures { result ≡ number_at column place }
 {
-    let number = place as i64;
-    number - below_of(column)
+    i64::from(place) - below_of(column)
 }

@@ -6,7 +6,8 @@ ghost use Rattle.awari_rank.specs.Rank.{size_of};
 ghost use Rattle.awari_table.specs.declared.TheConstants.{HIGHEST_LEVEL};
 ghost use Rattle.awari_table.specs.declared.images.Entry.{Entry as AnEntry};
 ghost use Rattle.awari_table.specs.declared.images.Image.{Image};
-ghost use Rattle.awari_levels.specs.Counts.{value_at};
+ghost use Rattle.awari_levels.specs.Ranges.{number_at};
+ghost use Rattle.awari_queries.specs.declared.columns.Column.TheVariants.{Value};
 ghost use Rattle.awari_facts.specs.Sources.{SaysBy, levels_of};
 ghost use Rattle.awari_levels.specs.Tallies.{IsTallied, IsTallyOf, has_sign};
 
@@ -19,7 +20,7 @@ use awari_table::Entry;
 use std::alloc::{AllocError, Global};
 
 /// How many values a byte has.
-pub(crate) const VALUES: usize = 256;
+const VALUES: usize = 256;
 
 /// How many boards have what was counted of them.
 #[derive(Drop)]
@@ -35,17 +36,9 @@ pub(crate) struct Tally {
 /// The number of a value among those that a byte has.
 fn place_of_value(value: i8) -> usize
     ensures low { result < VALUES }
-    ensures value { value ≡ value_at result }
+    ensures value { value ≡ number_at Value result }
 {
     (i16::from(value) + 128) as usize
-}
-
-/// The value of a number below 256.
-pub(crate) fn value_of(place: usize) -> i16
-    requires { place < VALUES }
-    ensures { result ≡ value_at place }
-{
-    place as i16 - 128
 }
 
 /// 0 if the value is lost, 1 if it is even, 2 if it is won.
