@@ -1,16 +1,16 @@
 -- The levels in a folder, the commands that ask them about one board, and why a command gives no answer.
-use Rattle.std.specs.Prelude.{◌≡◌, ℕ, List, ◌++◌, Option, Result, Err, codes, min, sum}
-use Rattle.std.specs.Fmt.{decimal}
-use Rattle.awari_board.specs.BoardFault.{IsFaulty, fault_text as board_fault_text}
-use Rattle.awari_board.specs.MoveFault.{fault_text as move_fault_text}
+use Rattle.std.specs.Prelude.{◌≡◌, ℕ, List, [], ◌∷◌, Option, Result, Err, codes, min, sum}
+use Rattle.awari_board.specs.BoardFault.{IsFaulty, reason_of as board_reason_of}
+use Rattle.awari_board.specs.MoveFault.{number_of, reason_of as move_reason_of}
 use Rattle.awari_board.specs.Rules.{IsBoard}
 use Rattle.awari_board.specs.Text.{text_of}
+use Rattle.awari_faults.specs.Refusals.{Words, alone, with_number}
 use Rattle.awari_folder.specs.Contents.{AreNames, IsFaultTo, IsStoredToIn, OpenIfRefused, Refusals}
-use Rattle.awari_folder.specs.FolderFault.{fault_text as folder_fault_text}
+use Rattle.awari_folder.specs.FolderFault.{refusal_of as folder_refusal_of}
 use Rattle.awari_folder.specs.State.{State, Unchanged}
 use Rattle.awari_folder.specs.declared.faults.FolderFault.{FolderFault}
-use Rattle.awari_play.specs.LineFault.{fault_text as line_fault_text}
-use Rattle.awari_table.specs.NotYet.{fault_text as not_yet_text}
+use Rattle.awari_play.specs.LineFault.{reason_of as line_reason_of}
+use Rattle.awari_table.specs.NotYet.{reason_of as not_yet_reason_of}
 use Rattle.awari_table.specs.Shelves.{IsShelf}
 use Rattle.awari_table.specs.declared.TheConstants.{HIGHEST_LEVEL}
 use Rattle.awari_table.specs.declared.images.Image.{Image}
@@ -49,16 +49,16 @@ pub record OnlyAsks {T : Type 0} (result : Result T NoAnswer) (old new : State) 
   pub unchanged : Unchanged old new
   pub refused : TellsOpen result old.refusals new.refusals
 
--- the fault inside it, and the number of a move among several; or its number, its name and its field
-abbrev pub no_answer_text : NoAnswer → List ℕ
-no_answer_text (Board fault) = board_fault_text fault
-no_answer_text (Move fault) = move_fault_text fault
-no_answer_text (MoveAt fault number) = move_fault_text fault ++ codes " at " ++ decimal number
-no_answer_text (Folder fault) = folder_fault_text fault
-no_answer_text (NotYet fault) = not_yet_text fault
-no_answer_text (Line fault) = line_fault_text fault
-no_answer_text Memory = codes "84 Memory"
-no_answer_text (NoRank boards) = codes "93 NoRank boards " ++ decimal boards
-no_answer_text Overflow = codes "94 Overflow"
-no_answer_text (Span fault) = codes "95 Span"
-no_answer_text (Column fault) = codes "96 Column"
+-- what is told of it: what is told of the fault inside, and the number of a move among several
+abbrev pub refusal_of : NoAnswer → List Words
+refusal_of (Board fault) = board_reason_of fault ∷ []
+refusal_of (Move fault) = move_reason_of fault ∷ []
+refusal_of (MoveAt fault n) = with_number (number_of fault) (codes "at") n ∷ []
+refusal_of (Folder fault) = folder_refusal_of fault
+refusal_of (NotYet fault) = not_yet_reason_of fault ∷ []
+refusal_of (Line fault) = line_reason_of fault ∷ []
+refusal_of Memory = alone 84 ∷ []
+refusal_of (NoRank boards) = with_number 93 (codes "boards") boards ∷ []
+refusal_of Overflow = alone 94 ∷ []
+refusal_of (Span fault) = alone 95 ∷ []
+refusal_of (Column fault) = alone 96 ∷ []

@@ -1,7 +1,7 @@
 //! What the commands have in common that ask the levels in a folder about one board: the board, the
 //! levels, and why a command gives no answer.
 
-ghost use Rattle.std.specs.Prelude.{◌≡◌, ◌≤◌, ◌↔◌, Err, IfErr, IfOk, length};
+ghost use Rattle.std.specs.Prelude.{◌≡◌, ◌↔◌, Err, IfErr, IfOk};
 ghost use Rattle.awari_board.specs.BoardFault.{IsFaulty};
 ghost use Rattle.awari_board.specs.declared.text.BoardFault.{BoardFault};
 ghost use Rattle.awari_folder.specs.Contents.{Lacks};
@@ -10,6 +10,7 @@ ghost use Rattle.awari_answers.specs.declared.asked.NoAnswer.TheVariants as no_a
 
 use crate::levels::load_levels;
 use awari_board::{Board, BoardFault, MoveFault, one_board_fault_is_due};
+use awari_faults::{Reason, Refusal};
 use awari_folder::{Folder, FolderFault};
 use awari_play::LineFault;
 use awari_queries::{NoColumn, NoSpan};
@@ -26,8 +27,7 @@ pub struct Asked {
     pub shelf: Shelf,
 }
 
-/// Why a command that only reads gives no answer. It is printed as the fault inside it, or as its number, its
-/// name and its field.
+/// Why a command that only reads gives no answer. It is printed as its refusal.
 #[derive(Clone, Copy, Debug, PartialEq, Eq, Error)]
 pub enum NoAnswer {
     /// The text is not a board.
@@ -56,45 +56,29 @@ pub enum NoAnswer {
 }
 
 impl NoAnswer {
-    ghost use Rattle.awari_answers.specs.Refusals.{name_of, number_of};
+    ghost use Rattle.awari_faults.specs.Parts.{said};
+    ghost use Rattle.awari_answers.specs.Asked.{refusal_of};
 
-    /// Its number, or that of the fault inside it.
-    pub(crate) fn number(self) -> u8
-        ensures { result ≡ number_of self }
+    /// What is told of it: what is told of the fault inside, and the number of a move among several.
+    pub fn refusal(self) -> Refusal
+        ensures { said result ≡ refusal_of self }
     {
         match self {
-            NoAnswer::Board { fault } => fault.number(),
-            NoAnswer::Move { fault } | NoAnswer::MoveAt { fault, .. } => fault.number(),
-            NoAnswer::Folder { fault } => fault.number(),
-            NoAnswer::NotYet { fault } => fault.number(),
-            NoAnswer::Line { fault } => fault.number(),
-            NoAnswer::Memory => 84,
-            NoAnswer::NoRank { .. } => 93,
-            NoAnswer::Overflow => 94,
-            NoAnswer::Span { .. } => 95,
-            NoAnswer::Column { .. } => 96,
-        }
-    }
-
-    /// Its name, or that of the fault inside it.
-    pub(crate) fn name(self) -> &'static str
-        ensures name { result.now ≡ name_of self }
-        ensures short { length result.now ≤ 20 }
-    {
-        match self {
-            NoAnswer::Board { fault } => fault.name(),
-            NoAnswer::Move { fault } | NoAnswer::MoveAt { fault, .. } => fault.name(),
-            NoAnswer::Folder { fault } => fault.name(),
-            NoAnswer::NotYet { .. } => "NotYet",
-            NoAnswer::Line { fault } => match fault {
-                LineFault::NotYet { .. } => "NotYet",
-                LineFault::Memory => "Memory",
-            },
-            NoAnswer::Memory => "Memory",
-            NoAnswer::NoRank { .. } => "NoRank",
-            NoAnswer::Overflow => "Overflow",
-            NoAnswer::Span { .. } => "Span",
-            NoAnswer::Column { .. } => "Column",
+            NoAnswer::Board { fault } => Refusal::alone(fault.reason()),
+            NoAnswer::Move { fault } => Refusal::alone(fault.reason()),
+            NoAnswer::MoveAt { fault, number } => {
+                Refusal::alone(Reason::with_number(fault.number(), "at", number))
+            }
+            NoAnswer::Folder { fault } => fault.refusal(),
+            NoAnswer::NotYet { fault } => Refusal::alone(fault.reason()),
+            NoAnswer::Line { fault } => Refusal::alone(fault.reason()),
+            NoAnswer::Memory => Refusal::alone(Reason::alone(84)),
+            NoAnswer::NoRank { boards } => {
+                Refusal::alone(Reason::with_number(93, "boards", u128::from(boards)))
+            }
+            NoAnswer::Overflow => Refusal::alone(Reason::alone(94)),
+            NoAnswer::Span { .. } => Refusal::alone(Reason::alone(95)),
+            NoAnswer::Column { .. } => Refusal::alone(Reason::alone(96)),
         }
     }
 }
@@ -165,24 +149,13 @@ impl From<AllocError> for NoAnswer {
 
 impl fmt::Display for NoAnswer {
     ghost use Rattle.std.specs.Prelude.{Some};
-    ghost use Rattle.awari_answers.specs.Asked.{no_answer_text};
+    ghost use Rattle.awari_faults.specs.Refusals.{refusal_text};
+    ghost use Rattle.awari_answers.specs.Asked.{refusal_of};
 
-    ghost output = { λ fault. Some (no_answer_text fault) };
+    ghost output = { λ fault. Some (refusal_text (refusal_of fault)) };
 
     fn fmt<W: fmt::Write>(&self, f: &mut fmt::Formatter<W>) -> fmt::Result {
-        match *self {
-            NoAnswer::Board { fault } => write!(f, "{fault}"),
-            NoAnswer::Move { fault } => write!(f, "{fault}"),
-            NoAnswer::MoveAt { fault, number } => write!(f, "{fault} at {number}"),
-            NoAnswer::Folder { fault } => write!(f, "{fault}"),
-            NoAnswer::NotYet { fault } => write!(f, "{fault}"),
-            NoAnswer::Line { fault } => write!(f, "{fault}"),
-            NoAnswer::Memory => write!(f, "84 Memory"),
-            NoAnswer::NoRank { boards } => write!(f, "93 NoRank boards {boards}"),
-            NoAnswer::Overflow => write!(f, "94 Overflow"),
-            NoAnswer::Span { .. } => write!(f, "95 Span"),
-            NoAnswer::Column { .. } => write!(f, "96 Column"),
-        }
+        write!(f, "{}", self.refusal())
     }
 }
 

@@ -5,7 +5,8 @@ ghost use Rattle.std.specs.Prelude.{◌≡◌, ◌≢◌, ◌≤◌, ◌*◌, �
 ghost use Rattle.awari_answers.specs.Broken.{HasBoard, asked_text, entry_line, limit_byte, limit_line, lines_below};
 ghost use Rattle.awari_board.specs.Rules.{IsBoard};
 ghost use Rattle.awari_file.specs.FileText.{entry_place};
-ghost use Rattle.awari_folder.specs.FolderFault.{fault_text};
+ghost use Rattle.awari_folder.specs.FolderFault.{refusal_of};
+ghost use Rattle.awari_faults.specs.Refusals.{refusal_text};
 ghost use Rattle.awari_rank.specs.Rank.{rank_of};
 ghost use Rattle.awari_streams.specs.Counted.{AppendsFront};
 ghost use Rattle.awari_table.specs.declared.TheConstants.{HIGHEST_LEVEL};
@@ -14,6 +15,7 @@ use crate::printing::{Refused, print, print_line};
 use crate::remarks::Explained;
 use awari_board::Board;
 use awari_check::{Answer, CheckFault};
+use awari_faults::{Reason, Refusal};
 use awari_file::entry_place;
 use awari_folder::FolderFault;
 use awari_rank::{size, unrank};
@@ -29,11 +31,12 @@ const LIMIT_PLACE: u64 = 16;
 /// of the levels breaks a rule, if that is the fault.
 pub fn refuse_folder<W: Write, E: Write>(writer: &mut W, errors: &mut E, fault: FolderFault) -> u8
     ensures status { result ≡ 1 }
-    ensures told { AppendsFront (W.contents writer.old) (W.contents writer.new) (codes "refused " ++ fault_text fault ++ 10 ∷ []) }
+    ensures told { AppendsFront (W.contents writer.old) (W.contents writer.new) (codes "refused " ++ refusal_text (refusal_of fault) ++ 10 ∷ []) }
 {
-    print_line(writer, &Refused(fault));
+    let refusal = fault.refusal();
+    print_line(writer, &Refused(refusal));
     // There is nowhere to say that this could not be written.
-    print(errors, &Explained(fault));
+    print(errors, &Explained(refusal));
     if let FolderFault::Verify {
         level,
         fault: VerifyFault::Refused { rank, rule },
@@ -50,9 +53,7 @@ pub fn tell_answer<E: Write>(errors: &mut E, answer: Answer) {
     match answer {
         Answer::Yes { .. } => {}
         Answer::Fault { fault } => tell_check_fault(errors, fault),
-        Answer::Read => {
-            print(errors, &Explained("14 Read"));
-        }
+        Answer::Read => explain(errors, Reason::alone(14)),
     }
 }
 
@@ -65,13 +66,15 @@ fn tell_check_fault<E: Write>(errors: &mut E, fault: CheckFault) {
             let place = Place::Line(line_of(level, rank, rule));
             tell_broken(errors, level, rank, rule, place);
         }
-        CheckFault::Verify { fault, .. } => {
-            print(errors, &Explained(fault));
-        }
-        CheckFault::Table { fault } => {
-            print(errors, &Explained(fault));
-        }
+        CheckFault::Verify { fault, .. } => explain(errors, fault.reason()),
+        CheckFault::Table { fault } => explain(errors, fault.reason()),
     }
+}
+
+/// Says what a fault means.
+fn explain<E: Write>(errors: &mut E, reason: Reason) {
+    // There is nowhere to say that this could not be written.
+    print(errors, &Explained(Refusal::alone(reason)));
 }
 
 fn tell_broken<E: Write>(errors: &mut E, level: u8, rank: u32, rule: Rule, place: Place) {

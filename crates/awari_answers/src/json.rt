@@ -3,6 +3,7 @@
 ghost use Rattle.std.specs.Prelude.{◌≡◌, ◌≤◌, ◌∷◌, [], ◌++◌, true, false, length, take};
 ghost use Rattle.std.specs.Io.KnownBytes.{Appends};
 ghost use Rattle.std.specs.Str.{IsUtf8};
+ghost use Rattle.awari_answers.specs.Asked.{refusal_of};
 ghost use Rattle.awari_answers.specs.Refusals.{level_word, refusal_line, request_text};
 ghost use Rattle.awari_members.specs.Forms.{form_of};
 ghost use Rattle.awari_members.specs.Json.{json_string};
@@ -10,9 +11,9 @@ ghost use Rattle.awari_streams.specs.Counted.{AppendsFront};
 
 use crate::asked::NoAnswer;
 use crate::printing::print_line;
-use crate::refusals::{Field, Fields, Refusal, Told, Value, refusal_of};
-use crate::remarks::{Reason, Replies};
+use crate::remarks::{Replies, Unanswered};
 use arrayvec::ArrayVec;
+use awari_faults::{Field, Fields, Inside, Reason, Refusal, Value};
 use awari_members::{AnswerText, Form, form_of, push_string};
 use awari_streams::{TextLine, numbered};
 use std::io::Write;
@@ -31,7 +32,7 @@ pub fn refuse_as<W: Replies>(
     fault: NoAnswer,
 ) -> u8
     ensures status { result ≡ 1 }
-    ensures told { AppendsFront (W.contents writer.old) (W.contents writer.new) (refusal_line (form_of json false) (take 200 (request_text command.now word.now)) fault ++ 10 ∷ []) }
+    ensures told { AppendsFront (W.contents writer.old) (W.contents writer.new) (refusal_line (form_of json false) (take 200 (request_text command.now word.now)) (refusal_of fault) ++ 10 ∷ []) }
 {
     refuse_in(
         writer,
@@ -52,7 +53,7 @@ pub fn refuse_level<W: Replies>(
     fault: NoAnswer,
 ) -> u8
     ensures status { result ≡ 1 }
-    ensures told { AppendsFront (W.contents writer.old) (W.contents writer.new) (refusal_line form (take 200 (request_text command.now (level_word level))) fault ++ 10 ∷ []) }
+    ensures told { AppendsFront (W.contents writer.old) (W.contents writer.new) (refusal_line form (take 200 (request_text command.now (level_word level))) (refusal_of fault) ++ 10 ∷ []) }
 {
     let word = word_of(level);
     refuse_in(writer, form, command, word.as_slice(), fault)
@@ -78,10 +79,10 @@ fn refuse_in<W: Replies>(
     fault: NoAnswer,
 ) -> u8
     ensures status { result ≡ 1 }
-    ensures told { AppendsFront (W.contents writer.old) (W.contents writer.new) (refusal_line form (take 200 (request_text command.now word.now)) fault ++ 10 ∷ []) }
+    ensures told { AppendsFront (W.contents writer.old) (W.contents writer.new) (refusal_line form (take 200 (request_text command.now word.now)) (refusal_of fault) ++ 10 ∷ []) }
 {
     print_refusal(writer, form, command, word, fault);
-    writer.remark(&Reason(fault));
+    writer.remark(&Unanswered(fault));
     1
 }
 
@@ -94,8 +95,8 @@ fn print_refusal<W: Write>(
     word: &[u8],
     fault: NoAnswer,
 ) -> bool
-    ensures whole { result ≡ true → Appends (W.contents writer.old) (W.contents writer.new) (refusal_line form (take 200 (request_text command.now word.now)) fault ++ 10 ∷ []) }
-    ensures front { AppendsFront (W.contents writer.old) (W.contents writer.new) (refusal_line form (take 200 (request_text command.now word.now)) fault ++ 10 ∷ []) }
+    ensures whole { result ≡ true → Appends (W.contents writer.old) (W.contents writer.new) (refusal_line form (take 200 (request_text command.now word.now)) (refusal_of fault) ++ 10 ∷ []) }
+    ensures front { AppendsFront (W.contents writer.old) (W.contents writer.new) (refusal_line form (take 200 (request_text command.now word.now)) (refusal_of fault) ++ 10 ∷ []) }
 {
     let request = request_of(command.as_bytes(), word);
     let string = string_of(request.as_slice());
@@ -104,7 +105,7 @@ fn print_refusal<W: Write>(
         unreachable!()
     };
     let shown = Shown {
-        refusal: refusal_of(fault),
+        refusal: fault.refusal(),
         form,
         request,
     };
@@ -154,129 +155,209 @@ struct Shown<'a> {
 
 impl fmt::Display for Shown<'_> {
     ghost use Rattle.std.specs.Prelude.{Some};
-    ghost use Rattle.awari_answers.specs.Parts.{said, shown_text};
+    ghost use Rattle.awari_faults.specs.Parts.{said};
+    ghost use Rattle.awari_answers.specs.Parts.{shown_text};
 
     ghost output = { λ shown. Some (shown_text shown.form shown.request.now (said shown.refusal)) };
 
     fn fmt<W: fmt::Write>(&self, f: &mut fmt::Formatter<W>) -> fmt::Result {
-        let told = ToldIn(self.refusal.told, self.form);
-        let inside = InsideIn(self.refusal.inside, self.form);
-        let request = self.request;
+        let Shown {
+            refusal,
+            request,
+            ..
+        } = *self;
         match self.form {
-            Form::Text => write!(f, "refused {told}{inside}"),
-            Form::Csv => write!(f, "refused,{told}{inside}"),
-            Form::Json => write!(f, "{{\"request\":{request},{told}{inside}}}"),
+            Form::Text => write!(f, "refused {refusal}"),
+            Form::Csv => write!(f, "refused{}", Rows(refusal)),
+            Form::Json => write!(f, "{{\"request\":{request},{}}}", Object(refusal)),
         }
     }
 }
 
-/// The fault inside another in a form, behind it.
+/// The rows of a fault and of those inside it.
 #[derive(Clone, Copy)]
-struct InsideIn(Option<Told>, Form);
+struct Rows(Refusal);
 
-impl fmt::Display for InsideIn {
+impl fmt::Display for Rows {
     ghost use Rattle.std.specs.Prelude.{Some};
-    ghost use Rattle.awari_answers.specs.Parts.{inside_said, inside_text};
+    ghost use Rattle.std.specs.List.{flat_map};
+    ghost use Rattle.awari_faults.specs.Parts.{said};
+    ghost use Rattle.awari_answers.specs.Refusals.{row_of};
 
-    ghost output = { λ shown. Some (inside_text shown.1 (inside_said shown.0)) };
+    ghost output = { λ rows. Some (flat_map row_of (said rows.0)) };
 
     fn fmt<W: fmt::Write>(&self, f: &mut fmt::Formatter<W>) -> fmt::Result {
-        let InsideIn(inside, form) = *self;
-        let Some(told) = inside else {
-            return Ok(());
-        };
-        let told = ToldIn(told, form);
-        match form {
-            Form::Text => write!(f, ": {told}"),
-            Form::Csv => write!(f, ",{told}"),
-            Form::Json => write!(f, ",\"inside\":{{{told}}}"),
+        let reason = Row(self.0.reason);
+        match self.0.inside {
+            Inside::None => write!(f, "{reason}"),
+            Inside::One(first) => write!(f, "{reason}{}", Row(first)),
+            Inside::Two(first, second) => write!(f, "{reason}{}{}", Row(first), Row(second)),
         }
     }
 }
 
-/// What is told of a fault in a form.
+/// The row of a fault.
 #[derive(Clone, Copy)]
-struct ToldIn(Told, Form);
+struct Row(Reason);
 
-impl fmt::Display for ToldIn {
+impl fmt::Display for Row {
     ghost use Rattle.std.specs.Prelude.{Some};
-    ghost use Rattle.awari_answers.specs.Parts.{told_said, words_text};
+    ghost use Rattle.awari_faults.specs.Parts.{reason_said};
+    ghost use Rattle.awari_answers.specs.Refusals.{row_of};
 
-    ghost output = { λ shown. Some (words_text shown.1 (told_said shown.0)) };
+    ghost output = { λ row. Some (row_of (reason_said row.0)) };
 
     fn fmt<W: fmt::Write>(&self, f: &mut fmt::Formatter<W>) -> fmt::Result {
-        let ToldIn(told, form) = *self;
-        let Told { number, name, .. } = told;
-        let fields = FieldsIn(told.fields, form);
-        match form {
-            Form::Text => write!(f, "{number} {name}{fields}"),
-            Form::Csv => write!(f, "{number},{name}{fields}"),
-            Form::Json => write!(f, "\"refused\":{number},\"name\":\"{name}\"{fields}"),
-        }
+        let Row(reason) = *self;
+        let name = reason.name();
+        write!(f, ",{},{name}{}", reason.number, RowFields(reason.fields))
     }
 }
 
-/// Fields in a form, each behind a mark.
+/// The fields of a fault in its row.
 #[derive(Clone, Copy)]
-struct FieldsIn(Fields, Form);
+struct RowFields(Fields);
 
-impl fmt::Display for FieldsIn {
+impl fmt::Display for RowFields {
     ghost use Rattle.std.specs.Prelude.{Some};
-    ghost use Rattle.awari_answers.specs.Parts.{fields_said, fields_text};
+    ghost use Rattle.std.specs.List.{flat_map};
+    ghost use Rattle.awari_faults.specs.Parts.{fields_said};
+    ghost use Rattle.awari_answers.specs.Refusals.{field_in_row};
 
-    ghost output = { λ shown. Some (fields_text shown.1 (fields_said shown.0)) };
+    ghost output = { λ fields. Some (flat_map field_in_row (fields_said fields.0)) };
 
     fn fmt<W: fmt::Write>(&self, f: &mut fmt::Formatter<W>) -> fmt::Result {
-        let FieldsIn(fields, form) = *self;
-        match fields {
+        match self.0 {
             Fields::None => Ok(()),
-            Fields::One(field) => write!(f, "{}", FieldIn(field, form)),
-            Fields::Two(first, second) => {
-                write!(f, "{}{}", FieldIn(first, form), FieldIn(second, form))
+            Fields::One(Field { name, value }) => write!(f, ",{name},{value}"),
+            Fields::Two(first, second) => write!(
+                f,
+                ",{},{},{},{}",
+                first.name, first.value, second.name, second.value
+            ),
+        }
+    }
+}
+
+/// The members of a fault, with those of the faults inside it as objects.
+#[derive(Clone, Copy)]
+struct Object(Refusal);
+
+impl fmt::Display for Object {
+    ghost use Rattle.std.specs.Prelude.{Some};
+    ghost use Rattle.awari_faults.specs.Parts.{said};
+    ghost use Rattle.awari_answers.specs.Parts.{object_of};
+
+    ghost output = { λ object. Some (object_of (said object.0)) };
+
+    fn fmt<W: fmt::Write>(&self, f: &mut fmt::Formatter<W>) -> fmt::Result {
+        let reason = Members(self.0.reason);
+        write!(f, "{reason}{}", InsideObject(self.0.inside))
+    }
+}
+
+/// The faults inside another as objects, behind its members.
+#[derive(Clone, Copy)]
+struct InsideObject(Inside);
+
+impl fmt::Display for InsideObject {
+    ghost use Rattle.std.specs.Prelude.{Some};
+    ghost use Rattle.awari_faults.specs.Parts.{inside_said};
+    ghost use Rattle.awari_answers.specs.Parts.{inside_object};
+
+    ghost output = { λ object. Some (inside_object (inside_said object.0)) };
+
+    fn fmt<W: fmt::Write>(&self, f: &mut fmt::Formatter<W>) -> fmt::Result {
+        match self.0 {
+            Inside::None => Ok(()),
+            Inside::One(first) => write!(f, "{}", Inmost(first)),
+            Inside::Two(first, second) => {
+                write!(f, ",\"inside\":{{{}{}}}", Members(first), Inmost(second))
             }
         }
     }
 }
 
-/// A field in a form, behind a mark.
+/// A fault with none inside it as an object, behind members.
 #[derive(Clone, Copy)]
-struct FieldIn(Field, Form);
+struct Inmost(Reason);
 
-impl fmt::Display for FieldIn {
+impl fmt::Display for Inmost {
     ghost use Rattle.std.specs.Prelude.{[], ◌∷◌, Some};
-    ghost use Rattle.awari_answers.specs.Parts.{field_said, fields_text};
+    ghost use Rattle.awari_faults.specs.Parts.{reason_said};
+    ghost use Rattle.awari_answers.specs.Parts.{inside_object};
 
-    ghost output = { λ shown. Some (fields_text shown.1 (field_said shown.0 ∷ [])) };
+    ghost output = { λ inmost. Some (inside_object (reason_said inmost.0 ∷ [])) };
 
     fn fmt<W: fmt::Write>(&self, f: &mut fmt::Formatter<W>) -> fmt::Result {
-        let FieldIn(Field { name, value }, form) = *self;
-        let value = ValueIn(value, form);
-        match form {
-            Form::Text => write!(f, " {name} {value}"),
-            Form::Csv => write!(f, ",{name},{value}"),
-            Form::Json => write!(f, ",\"{name}\":{value}"),
+        write!(f, ",\"inside\":{{{}}}", Members(self.0))
+    }
+}
+
+/// The members of a fault.
+#[derive(Clone, Copy)]
+struct Members(Reason);
+
+impl fmt::Display for Members {
+    ghost use Rattle.std.specs.Prelude.{[], Some};
+    ghost use Rattle.awari_faults.specs.Parts.{reason_said};
+    ghost use Rattle.awari_members.specs.Members.{marked};
+    ghost use Rattle.awari_members.specs.declared.forms.Form.TheVariants as form;
+    ghost use Rattle.awari_answers.specs.Refusals.{members_of};
+
+    ghost output = { λ members. Some (marked form.Json [] (members_of (reason_said members.0))) };
+
+    fn fmt<W: fmt::Write>(&self, f: &mut fmt::Formatter<W>) -> fmt::Result {
+        let Members(reason) = *self;
+        let name = reason.name();
+        let number = reason.number;
+        let fields = MemberFields(reason.fields);
+        write!(f, "\"refused\":{number},\"name\":\"{name}\"{fields}")
+    }
+}
+
+/// The fields of a fault as members, each behind a comma.
+#[derive(Clone, Copy)]
+struct MemberFields(Fields);
+
+impl fmt::Display for MemberFields {
+    ghost use Rattle.std.specs.Prelude.{Some, codes, map};
+    ghost use Rattle.awari_faults.specs.Parts.{fields_said};
+    ghost use Rattle.awari_members.specs.Members.{marked};
+    ghost use Rattle.awari_members.specs.declared.forms.Form.TheVariants as form;
+    ghost use Rattle.awari_answers.specs.Refusals.{named};
+
+    ghost output = { λ fields. Some (marked form.Json (codes ",") (map named (fields_said fields.0))) };
+
+    fn fmt<W: fmt::Write>(&self, f: &mut fmt::Formatter<W>) -> fmt::Result {
+        match self.0 {
+            Fields::None => Ok(()),
+            Fields::One(field) => write!(f, "{}", MemberField(field)),
+            Fields::Two(first, second) => {
+                write!(f, "{}{}", MemberField(first), MemberField(second))
+            }
         }
     }
 }
 
-/// A value in a form.
+/// A field of a fault as a member, behind a comma.
 #[derive(Clone, Copy)]
-struct ValueIn(Value, Form);
+struct MemberField(Field);
 
-impl fmt::Display for ValueIn {
-    ghost use Rattle.std.specs.Prelude.{Some};
-    ghost use Rattle.awari_answers.specs.Parts.{value_in};
+impl fmt::Display for MemberField {
+    ghost use Rattle.std.specs.Prelude.{[], ◌∷◌, Some, codes};
+    ghost use Rattle.awari_faults.specs.Parts.{shown};
+    ghost use Rattle.awari_members.specs.Members.{marked};
+    ghost use Rattle.awari_members.specs.declared.forms.Form.TheVariants as form;
+    ghost use Rattle.awari_answers.specs.Refusals.{named};
 
-    ghost output = { λ shown. Some (value_in shown.0 shown.1) };
+    ghost output = { λ field. Some (marked form.Json (codes ",") (named (shown field.0) ∷ [])) };
 
     fn fmt<W: fmt::Write>(&self, f: &mut fmt::Formatter<W>) -> fmt::Result {
-        let ValueIn(value, form) = *self;
+        let MemberField(Field { name, value }) = *self;
         match value {
-            Value::Number(number) => write!(f, "{number}"),
-            Value::Word(word) => match form {
-                Form::Json => write!(f, "\"{word}\""),
-                Form::Text | Form::Csv => write!(f, "{word}"),
-            },
+            Value::Number(number) => write!(f, ",\"{name}\":{number}"),
+            Value::Word(word) => write!(f, ",\"{name}\":\"{word}\""),
         }
     }
 }

@@ -2,12 +2,15 @@
 
 ghost use Rattle.std.specs.Prelude.{◌≡◌, ◌≤◌, ◌++◌, ◌∷◌, [], ◌↔◌, true, false, codes, length, map, take, IfNone, IfSome};
 ghost use Rattle.std.specs.Io.KnownBytes.{Appends};
+ghost use Rattle.awari_faults.specs.Parts.{said as faults_said};
+ghost use Rattle.awari_faults.specs.Refusals.{refusal_text};
 ghost use Rattle.awari_members.specs.Members.{line_text, said};
 ghost use Rattle.awari_members.specs.Forms.{form_of};
 ghost use Rattle.awari_streams.specs.Counted.{AppendsFront};
 
 use crate::remarks::{Explained, Replies};
 use arrayvec::ArrayString;
+use awari_faults::Refusal;
 use awari_members::{Line, Member, form_of};
 use std::fmt::{self, Display, Write as _};
 use std::io::{ErrorKind, Write};
@@ -110,15 +113,14 @@ fn write_piece<W: Write>(writer: &mut W, bytes: &[u8]) -> Option<usize>
     }
 }
 
-/// A refusal. It is printed as `refused` and the fault.
+/// A refusal. It is printed as `refused` and the faults.
 #[derive(Clone, Copy)]
-pub struct Refused<T>(pub T);
+pub(crate) struct Refused(pub(crate) Refusal);
 
-impl<T: Display> Display for Refused<T> {
-    ghost use Rattle.std.specs.Prelude.{Some, codes};
-    ghost use Rattle.std.specs.Fmt.{◌++?◌};
+impl Display for Refused {
+    ghost use Rattle.std.specs.Prelude.{◌++◌, Some, codes};
 
-    ghost output = { λ refused. Some (codes "refused ") ++? T.output refused.0 };
+    ghost output = { λ refused. Some (codes "refused " ++ refusal_text (faults_said refused.0)) };
 
     fn fmt<W: fmt::Write>(&self, f: &mut fmt::Formatter<W>) -> fmt::Result {
         write!(f, "refused {}", self.0)
@@ -135,11 +137,11 @@ pub fn status_of(written: bool) -> u8
 
 /// Writes a refusal, and gives the status 1. The writer holds its line then, or a front of it if the writer
 /// refused. What it means is told as a remark.
-pub fn refuse<W: Replies, T: Display + Copy>(writer: &mut W, fault: T) -> u8
+pub fn refuse<W: Replies>(writer: &mut W, refusal: Refusal) -> u8
     ensures status { result ≡ 1 }
-    ensures told { IfSome (T.output fault) (λ text. AppendsFront (W.contents writer.old) (W.contents writer.new) (codes "refused " ++ text ++ 10 ∷ [])) }
+    ensures told { AppendsFront (W.contents writer.old) (W.contents writer.new) (codes "refused " ++ refusal_text (faults_said refusal) ++ 10 ∷ []) }
 {
-    print_line(writer, &Refused(fault));
-    writer.remark(&Explained(fault));
+    print_line(writer, &Refused(refusal));
+    writer.remark(&Explained(refusal));
     1
 }

@@ -4,14 +4,11 @@ ghost use Rattle.std.specs.Prelude.{◌≡◌};
 
 use crate::asked::NoAnswer;
 use arrayvec::ArrayString;
+use awari_faults::{Field, Fields, Inside, Reason, Refusal, Value, sentence, sentence_of_limit};
 use awari_table::HIGHEST_LEVEL;
-use awari_texts::{sentence, sentence_of_limit};
 use std::fmt::{self, Display, Write as _};
 use std::io::{self, ErrorKind, Write};
-use std::str::{self, Split};
-
-/// More bytes than a refusal has.
-const REFUSAL_ROOM: usize = 256;
+use std::str;
 
 /// More bytes than one command tells of.
 const REMARK_ROOM: usize = 2048;
@@ -99,94 +96,79 @@ impl<W: Write> Replies for Answers<W> {
     }
 }
 
-/// A refusal in words: a line for its number, and one for that of each refusal inside it. The numbers
-/// are read where they are printed, so that each has its own sentence. It is printed without the last line
+/// A refusal in words: a sentence for each fault, on lines of their own. It is printed without the last line
 /// feed.
 #[derive(Clone, Copy)]
-pub struct Explained<T>(pub T);
+pub(crate) struct Explained(pub(crate) Refusal);
 
-impl<T: Display> Display for Explained<T> {
+impl Display for Explained {
     fn fmt<W: fmt::Write>(&self, f: &mut fmt::Formatter<W>) -> fmt::Result {
-        let printed = Printed::of(&self.0);
-        for (place, refusal) in printed.refusals().enumerate() {
-            if place > 0 {
-                f.write_str("\n")?;
-            }
-            write!(f, "{}", Sentence(refusal.trim_start()))?;
+        write!(f, "{}", Sentence(self.0.reason))?;
+        match self.0.inside {
+            Inside::None => Ok(()),
+            Inside::One(first) => write!(f, "\n{}", Sentence(first)),
+            Inside::Two(first, second) => write!(f, "\n{}\n{}", Sentence(first), Sentence(second)),
         }
-        Ok(())
     }
 }
 
 /// Why a command gives no answer, in words: of an option whose word is at fault, which one and what is wrong;
-/// else what is printed is explained.
+/// else its refusal is explained.
 #[derive(Clone, Copy)]
-pub(crate) struct Reason(pub(crate) NoAnswer);
+pub(crate) struct Unanswered(pub(crate) NoAnswer);
 
-impl Display for Reason {
+impl Display for Unanswered {
+    fn fmt<W: fmt::Write>(&self, f: &mut fmt::Formatter<W>) -> fmt::Result {
+        let explained = Explained(self.0.refusal());
+        match self.0 {
+            NoAnswer::Span { fault } => write!(f, "{}: {explained}", fault.option()),
+            NoAnswer::Column { fault } => write!(f, "{}: {}", fault.option(), fault.sentence()),
+            _ => write!(f, "{explained}"),
+        }
+    }
+}
+
+/// The sentence of a fault. Of one that says how many levels there are, it says which.
+#[derive(Clone, Copy)]
+struct Sentence(Reason);
+
+impl Display for Sentence {
+    fn fmt<W: fmt::Write>(&self, f: &mut fmt::Formatter<W>) -> fmt::Result {
+        let text = str::from_utf8(sentence(self.0.number)).unwrap_or("");
+        match self.0.fields {
+            Fields::Two(_, Field { value, .. }) if is_limit(value) => {
+                f.write_str(sentence_of_limit())
+            }
+            Fields::One(Field { name, value }) if name == "levels" => {
+                write!(f, "{text}: {}", Levels(value))
+            }
+            _ => write!(f, "{text}"),
+        }
+    }
+}
+
+/// Whether a field names the rule of a level's limit.
+fn is_limit(value: Value) -> bool {
+    match value {
+        Value::Word(word) => word == "V7",
+        Value::Number(_) => false,
+    }
+}
+
+/// Which levels there are, if there are so many.
+#[derive(Clone, Copy)]
+struct Levels(Value);
+
+impl Display for Levels {
     fn fmt<W: fmt::Write>(&self, f: &mut fmt::Formatter<W>) -> fmt::Result {
         match self.0 {
-            NoAnswer::Span { fault } => write!(f, "{}: {}", fault.option(), Explained(self.0)),
-            NoAnswer::Column { fault } => write!(f, "{}: {}", fault.option(), fault.sentence()),
-            fault => write!(f, "{}", Explained(fault)),
-        }
-    }
-}
-
-/// A refusal as it is printed.
-#[derive(Drop)]
-struct Printed(ArrayString<REFUSAL_ROOM>);
-
-impl Printed {
-    /// What is printed of a refusal.
-    fn of<T: Display>(fault: &T) -> Printed {
-        let mut text = ArrayString::new();
-        // There is room for any refusal.
-        let _ = write!(text, "{fault}");
-        Printed(text)
-    }
-
-    /// The refusal, and then those inside it, each up to its colon.
-    fn refusals(&self) -> Split<'_, char> {
-        self.0.as_str().split(':')
-    }
-}
-
-/// The sentence of a refusal as it is printed, without what stands inside it.
-#[derive(Clone, Copy)]
-struct Sentence<'a>(&'a str);
-
-impl Display for Sentence<'_> {
-    fn fmt<W: fmt::Write>(&self, f: &mut fmt::Formatter<W>) -> fmt::Result {
-        if self.0.ends_with(" rule V7") {
-            return f.write_str(sentence_of_limit());
-        }
-        let text = str::from_utf8(sentence(number_of(self.0))).unwrap_or("");
-        match levels_of(self.0) {
-            None => write!(f, "{text}"),
-            Some(0) => write!(f, "{text}: there is no level"),
-            Some(levels) if levels > HIGHEST_LEVEL => {
-                write!(f, "{text}: no level is above {HIGHEST_LEVEL}")
-            }
-            Some(levels) => write!(
+            Value::Number(0) => f.write_str("there is no level"),
+            Value::Number(levels) if levels <= u128::from(HIGHEST_LEVEL) => write!(
                 f,
-                "{text}: there are levels 0 to {}, and none is above {HIGHEST_LEVEL}",
+                "there are levels 0 to {}, and none is above {HIGHEST_LEVEL}",
                 levels - 1
             ),
+            _ => write!(f, "no level is above {HIGHEST_LEVEL}"),
         }
     }
-}
-
-/// The number with which a refusal begins.
-fn number_of(refusal: &str) -> u8 {
-    let Some((number, _)) = refusal.split_once(' ') else {
-        return 0;
-    };
-    number.parse().unwrap_or(0)
-}
-
-/// How many levels there are, if a refusal says so.
-fn levels_of(refusal: &str) -> Option<u8> {
-    let (_, levels) = refusal.split_once(" NotYet levels ")?;
-    levels.parse().ok()
 }

@@ -1,6 +1,6 @@
 -- Why a text is no board.
-use Rattle.std.specs.Prelude.{◌≢◌, ℕ, ◌<◌, List, ◌++◌, Contains, sum, codes}
-use Rattle.std.specs.Fmt.{decimal}
+use Rattle.std.specs.Prelude.{◌≢◌, ℕ, ◌<◌, List, Contains, sum}
+use Rattle.awari_faults.specs.Refusals.{Words, alone}
 use Rattle.awari_board.specs.Text.{IsShaped, IsReadAs, fields, digits}
 use Rattle.awari_board.specs.declared.text.BoardFault.{BoardFault}
 use Rattle.awari_board.specs.declared.text.BoardFault.TheVariants.{Shape, Number, TooMany}
@@ -11,14 +11,9 @@ number_of Shape = 1
 number_of Number = 2
 number_of TooMany = 3
 
-abbrev pub name_of : BoardFault → List ℕ
-name_of Shape = codes "Shape"
-name_of Number = codes "Number"
-name_of TooMany = codes "TooMany"
-
--- what is printed of each: its number and its name
-abbrev pub fault_text : BoardFault → List ℕ
-fault_text fault = decimal (number_of fault) ++ codes " " ++ name_of fault
+-- what is told of each
+abbrev pub reason_of : BoardFault → Words
+reason_of fault = alone (number_of fault)
 
 -- The fault of a text. At most one is due: a fault is tested only where those before it are not due.
 abbrev pub IsFaulty : List ℕ → BoardFault → Type 0

@@ -1,9 +1,11 @@
 //! What playing a pit answers.
 
-ghost use Rattle.std.specs.Prelude.{◌≡◌, ◌≤◌, length};
-ghost use Rattle.awari_board.specs.MoveFault.{name_of, number_of};
+ghost use Rattle.std.specs.Prelude.{◌≡◌};
+ghost use Rattle.awari_board.specs.MoveFault.{number_of, reason_of};
+ghost use Rattle.awari_faults.specs.Parts.{reason_said};
 
 use crate::boards::Board;
+use awari_faults::Reason;
 use std::fmt;
 use thiserror::Error;
 
@@ -43,27 +45,22 @@ impl MoveFault {
         }
     }
 
-    /// The name of this refusal.
-    pub fn name(self) -> &'static str
-        ensures name { result.now ≡ name_of self }
-        ensures short { length result.now ≤ 20 }
+    /// What is told of it: its number.
+    pub fn reason(self) -> Reason
+        ensures { reason_said result ≡ reason_of self }
     {
-        match self {
-            MoveFault::NoPit => "NoPit",
-            MoveFault::Ended => "Ended",
-            MoveFault::EmptyPit => "EmptyPit",
-            MoveFault::MustFeed => "MustFeed",
-        }
+        Reason::alone(self.number())
     }
 }
 
 impl fmt::Display for MoveFault {
     ghost use Rattle.std.specs.Prelude.{Some};
-    ghost use Rattle.awari_board.specs.MoveFault.{fault_text};
+    ghost use Rattle.awari_faults.specs.Refusals.{words_text};
+    ghost use Rattle.awari_board.specs.MoveFault.{reason_of};
 
-    ghost output = { λ fault. Some (fault_text fault) };
+    ghost output = { λ fault. Some (words_text (reason_of fault)) };
 
     fn fmt<W: fmt::Write>(&self, f: &mut fmt::Formatter<W>) -> fmt::Result {
-        write!(f, "{} {}", self.number(), self.name())
+        write!(f, "{}", self.reason())
     }
 }

@@ -2,11 +2,13 @@
 
 ghost use Rattle.std.specs.Prelude.{◌≡◌, ◌≢◌, All, false, true, ℕ, ◌+◌, ◌*◌, ◌++◌, ◌<◌, ◌≤◌, ◌↔◌, IsTrue, IsNone, IfNone, IfSome, drop, length, slice_index, sum};
 ghost use Rattle.arrayvec.specs.ArrayVec.{array_vec_len};
-ghost use Rattle.awari_board.specs.BoardFault.{IsFaulty, name_of, number_of};
+ghost use Rattle.awari_board.specs.BoardFault.{IsFaulty, number_of, reason_of};
+ghost use Rattle.awari_faults.specs.Parts.{reason_said};
 ghost use Rattle.awari_board.specs.Text.{IsReadAs, IsShaped, digits, is_separator, mark_after, marks};
 
 use crate::sides::SIDE;
 use arrayvec::ArrayVec;
+use awari_faults::Reason;
 use std::fmt;
 use thiserror::Error;
 
@@ -37,27 +39,23 @@ impl BoardFault {
         }
     }
 
-    /// The name of this refusal.
-    pub fn name(self) -> &'static str
-        ensures name { result.now ≡ name_of self }
-        ensures short { length result.now ≤ 20 }
+    /// What is told of it: its number.
+    pub fn reason(self) -> Reason
+        ensures { reason_said result ≡ reason_of self }
     {
-        match self {
-            BoardFault::Shape => "Shape",
-            BoardFault::Number => "Number",
-            BoardFault::TooMany => "TooMany",
-        }
+        Reason::alone(self.number())
     }
 }
 
 impl fmt::Display for BoardFault {
     ghost use Rattle.std.specs.Prelude.{Some};
-    ghost use Rattle.awari_board.specs.BoardFault.{fault_text};
+    ghost use Rattle.awari_faults.specs.Refusals.{words_text};
+    ghost use Rattle.awari_board.specs.BoardFault.{reason_of};
 
-    ghost output = { λ fault. Some (fault_text fault) };
+    ghost output = { λ fault. Some (words_text (reason_of fault)) };
 
     fn fmt<W: fmt::Write>(&self, f: &mut fmt::Formatter<W>) -> fmt::Result {
-        write!(f, "{} {}", self.number(), self.name())
+        write!(f, "{}", self.reason())
     }
 }
 

@@ -75,6 +75,6 @@ pub fn run_plays<W: Replies>(alloc: Global, board: &str, plies: u8, writer: &mut
 {
     match plays_from(alloc, board.as_bytes(), plies) {
         Ok(counts) => status_of(print(writer, &counts)),
-        Err(fault) => refuse(writer, fault),
+        Err(fault) => refuse(writer, fault.refusal()),
     }
 }

@@ -82,7 +82,7 @@ pub fn run_rank<W: Replies>(board: &str, writer: &mut W) -> u8
 {
     match place_of(board.as_bytes()) {
         Ok(place) => status_of(print(writer, &place)),
-        Err(fault) => refuse(writer, fault),
+        Err(fault) => refuse(writer, fault.refusal()),
     }
 }
 
@@ -93,6 +93,6 @@ pub fn run_board<W: Replies>(level: u8, rank: u32, writer: &mut W) -> u8
 {
     match board_at(level, rank) {
         Ok(board) => status_of(print(writer, &board)),
-        Err(fault) => refuse(writer, fault),
+        Err(fault) => refuse(writer, fault.refusal()),
     }
 }

@@ -1,7 +1,7 @@
--- The numbers of the faults, and what is printed of them.
-use Rattle.std.specs.Prelude.{◌≡◌, ℕ, List, ◌++◌, codes}
-use Rattle.std.specs.Fmt.{decimal}
-use Rattle.awari_phase.specs.PhaseFault.{fault_text as phase_fault_text}
+-- The numbers of the faults, and what is told of them.
+use Rattle.std.specs.Prelude.{◌≡◌, ℕ, List, [], ◌∷◌}
+use Rattle.awari_faults.specs.Refusals.{Words, alone}
+use Rattle.awari_phase.specs.PhaseFault.{refusal_of as phase_refusal_of}
 use Rattle.awari_phase.specs.declared.faults.PhaseFault.TheVariants as phase_fault
 use Rattle.awari_build.specs.declared.faults.BuildFault.{BuildFault}
 use Rattle.awari_build.specs.declared.faults.BuildFault.TheVariants.{Owners, Pace, TooHigh, Memory, Phase}
@@ -13,17 +13,13 @@ number_of TooHigh = 51
 number_of Memory = 53
 number_of (Phase fault) = 52
 
--- its name, and the fault inside it
-abbrev pub name_and_fault : BuildFault → List ℕ
-name_and_fault Owners = codes "Owners"
-name_and_fault Pace = codes "Pace"
-name_and_fault TooHigh = codes "TooHigh"
-name_and_fault Memory = codes "Memory"
-name_and_fault (Phase fault) = codes "Phase: " ++ phase_fault_text fault
+-- what is told of the faults inside it, and of all
+abbrev pub inside_of : BuildFault → List Words
+inside_of (Phase fault) = phase_refusal_of fault
+inside_of fault = []
 
--- what is printed of each: its number, its name and the fault inside it
-abbrev pub fault_text : BuildFault → List ℕ
-fault_text fault = decimal (number_of fault) ++ codes " " ++ name_and_fault fault
+abbrev pub refusal_of : BuildFault → List Words
+refusal_of fault = alone (number_of fault) ∷ inside_of fault
 
 -- the level was not wanted any more, for which this holds
 abbrev pub IsStopped : Type 0 → BuildFault → Type 0

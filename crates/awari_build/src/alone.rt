@@ -13,7 +13,7 @@ use crate::faults::BuildFault;
 use crate::levels::{begin_next, level_of};
 use crate::telling::expect_wanted;
 use awari_block::ClosedPart;
-use awari_heard::{Progress, Silent, Told, distances_fit, finish_closed, one_part_hears_all};
+use awari_heard::{Progress, Silent, Stage, distances_fit, finish_closed, one_part_hears_all};
 use awari_owner::{Outboxes, Part};
 use awari_table::{Level, Shelf};
 use std::alloc::{AllocError, Global};
@@ -47,7 +47,7 @@ pub fn build_alone_with_progress<P: Progress>(
 {
     begin_next(shelf, progress)?;
     let parts = settled_part(alloc, shelf, progress)?;
-    progress.hear(Told::Planned);
+    progress.hear(Stage::Planned);
     let image = finish_closed(alloc, shelf, parts)?;
     Ok(level_of(shelf, image))
 }
@@ -91,9 +91,9 @@ fn closed_alone(alloc: Global, part: Part) -> Result<Vec<ClosedPart>, AllocError
 
 /// Tells `progress` which gain is open and how many boards were spread.
 fn tell<P: Progress>(part: &Part, progress: &mut P)
-    ensures { P.hears progress.old (Told.Settled part.now.gain (spread_of part.now)) progress.new }
+    ensures { P.hears progress.old (Stage.Settled part.now.gain (spread_of part.now)) progress.new }
 {
-    progress.hear(Told::Settled {
+    progress.hear(Stage::Settled {
         gain: usize::from(part.gain()),
         boards: part.boards_spread(),
     });

@@ -1,9 +1,12 @@
 //! Why a level is not built.
 
-ghost use Rattle.std.specs.Prelude.{◌≡◌};
-ghost use Rattle.awari_build.specs.BuildFault.{number_of};
+ghost use Rattle.std.specs.Prelude.{◌≡◌, ◌∷◌};
+ghost use Rattle.awari_faults.specs.Parts.{reason_said, said};
+ghost use Rattle.awari_build.specs.BuildFault.{number_of, refusal_of};
+ghost use Rattle.awari_phase.specs.PhaseFault.{refusal_of as phase_refusal_of};
 ghost use Rattle.awari_build.specs.declared.faults.BuildFault.TheVariants.{Memory};
 
+use awari_faults::{Inside, Reason, Refusal};
 use awari_phase::PhaseFault;
 use std::alloc::AllocError;
 use std::fmt;
@@ -39,23 +42,41 @@ impl BuildFault {
             BuildFault::Phase { .. } => 52,
         }
     }
+
+    /// What is told of it, and of the faults inside it.
+    pub fn refusal(self) -> Refusal
+        ensures { said result ≡ refusal_of self }
+    {
+        let reason = Reason::alone(self.number());
+        match self {
+            BuildFault::Phase { fault } => around_phase(reason, fault),
+            BuildFault::Owners | BuildFault::Pace | BuildFault::TooHigh | BuildFault::Memory =>
+                Refusal::alone(reason),
+        }
+    }
+}
+
+/// What is told of a fault around that of the owners.
+fn around_phase(reason: Reason, fault: PhaseFault) -> Refusal
+    ensures { said result ≡ reason_said reason ∷ phase_refusal_of fault }
+{
+    let phase = fault.reason();
+    let inside = match fault {
+        PhaseFault::BadNote { fault, .. } => Inside::Two(phase, fault.reason()),
+        PhaseFault::NotStarted | PhaseFault::Memory | PhaseFault::Stopped => Inside::One(phase),
+    };
+    Refusal { reason, inside }
 }
 
 impl fmt::Display for BuildFault {
     ghost use Rattle.std.specs.Prelude.{Some};
-    ghost use Rattle.awari_build.specs.BuildFault.{fault_text};
+    ghost use Rattle.awari_faults.specs.Refusals.{refusal_text};
+    ghost use Rattle.awari_build.specs.BuildFault.{refusal_of};
 
-    ghost output = { λ fault. Some (fault_text fault) };
+    ghost output = { λ fault. Some (refusal_text (refusal_of fault)) };
 
     fn fmt<W: fmt::Write>(&self, f: &mut fmt::Formatter<W>) -> fmt::Result {
-        let number = self.number();
-        match *self {
-            BuildFault::Owners => write!(f, "{number} Owners"),
-            BuildFault::Pace => write!(f, "{number} Pace"),
-            BuildFault::TooHigh => write!(f, "{number} TooHigh"),
-            BuildFault::Memory => write!(f, "{number} Memory"),
-            BuildFault::Phase { fault } => write!(f, "{number} Phase: {fault}"),
-        }
+        write!(f, "{}", self.refusal())
     }
 }
 

@@ -15,7 +15,7 @@ ghost use Rattle.awari_pace.specs.Paces.{HasOwners, IsPaced};
 use crate::faults::BuildFault;
 use crate::levels::{begin_next, level_of};
 use awari_block::ClosedPart;
-use awari_heard::{Progress, Silent, Told, finish_parallel};
+use awari_heard::{Progress, Silent, Stage, finish_parallel};
 use awari_pace::{MOST_OWNERS, MOST_ROOM, MOST_SWEEPS, Pace};
 use awari_phase::{
     Gate, Owner, PhaseFault, closed_parts, finished_owners_are_right, gain_phase_with_progress,
@@ -98,7 +98,7 @@ pub fn build_level_with_progress<R: Threads + Wait + Sync, G: Gate + Sync, P: Pr
     }
     begin_next(shelf, watch.progress)?;
     let parts = settled_parts(rt, alloc, shelf, pace, &mut watch)?;
-    watch.progress.hear(Told::Planned);
+    watch.progress.hear(Stage::Planned);
     let threads = parts.len();
     let image = finish_parallel(rt, alloc, shelf, parts, threads)?;
     Ok(level_of(shelf, image))

@@ -7,16 +7,16 @@ ghost use Rattle.awari_build.specs.BuildFault.{IsStopped};
 ghost use Rattle.awari_rank.specs.Rank.{size_of};
 
 use crate::faults::BuildFault;
-use awari_heard::{Progress, Told};
+use awari_heard::{Progress, Stage};
 use awari_phase::PhaseFault;
 use awari_rank::size;
 
 /// Tells that the level with this many stones begins.
 pub(crate) fn begin<P: Progress>(progress: &mut P, level: u8)
     requires { level ≤ 24 }
-    ensures { P.hears progress.old (Told.Begun level (size_of level)) progress.new }
+    ensures { P.hears progress.old (Stage.Begun level (size_of level)) progress.new }
 {
-    progress.hear(Told::Begun {
+    progress.hear(Stage::Begun {
         level: usize::from(level),
         boards: size(level) as usize,
     });

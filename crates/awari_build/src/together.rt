@@ -14,7 +14,7 @@ use crate::teams::{MOST_MEMBERS, Team};
 use crate::telling::{expect_wanted, stopped};
 use awari_block::ClosedPart;
 use awari_crew::{Crew, closed_by_crew};
-use awari_heard::{Progress, Silent, Told, finish_parallel};
+use awari_heard::{Progress, Silent, Stage, finish_parallel};
 use awari_segments::Halt;
 use awari_table::{Level, Shelf};
 use std::alloc::Global;
@@ -109,7 +109,7 @@ pub fn build_by_crew<R: Threads + Clock + Sync + Send + Clone + Drop + 'static, 
 {
     begin_next(shelf, progress)?;
     let settled = settled_together(rt, alloc, shelf, crew, progress)?;
-    progress.hear(Told::Planned);
+    progress.hear(Stage::Planned);
     let threads = usize::from(crew.members.min(MOST_MEMBERS));
     let image = finish_parallel(rt, alloc, shelf, settled.parts, threads)?;
     Ok(CrewBuilt {

@@ -1,9 +1,9 @@
 //! What is said of each answer, and the version.
 
 ghost use Rattle.std.specs.Prelude.{◌≡◌, ◌++◌, ◌∷◌, []};
-ghost use Rattle.awari_texts.specs.Sentences.{sentence};
+ghost use Rattle.awari_faults.specs.Meanings.{sentence};
 
-use awari_texts::ended_sentence;
+use awari_faults::ended_sentence;
 
 /// Version 0.1.0.
 const VERSION: u32 = 100;

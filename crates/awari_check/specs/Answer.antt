@@ -2,13 +2,14 @@
 use Rattle.std.specs.Prelude.{◌≡◌, ℕ, List, ◌++◌, ⊤, length, codes, ◌∷◌, [], Option, IfSome}
 use Rattle.std.specs.Fmt.{decimal}
 use Rattle.std.specs.Io.KnownBytes.{Appends}
+use Rattle.awari_faults.specs.Refusals.{alone, words_text}
 use Rattle.awari_table.specs.declared.images.Image.{Image}
 use Rattle.awari_table.specs.declared.faults.TableFault.TheVariants.{Memory}
 use Rattle.awari_table.specs.Images.{greatest_limit}
-use Rattle.awari_table.specs.TableFault.{fault_text as table_fault_text}
+use Rattle.awari_table.specs.TableFault.{reason_of as table_reason_of}
 use Rattle.awari_verify.specs.declared.verdicts.VerifyFault.TheVariants.{Refused}
 use Rattle.awari_verify.specs.Rule.{rule_name}
-use Rattle.awari_verify.specs.VerifyFault.{fault_text as verify_fault_text}
+use Rattle.awari_verify.specs.VerifyFault.{reason_of as verify_reason_of}
 use Rattle.awari_check.specs.declared.checks.CheckFault.{CheckFault}
 use Rattle.awari_check.specs.declared.checks.CheckFault.TheVariants.{Table, Verify}
 use Rattle.awari_check.specs.declared.answers.Answer.{Answer}
@@ -18,13 +19,13 @@ use Rattle.awari_check.specs.CheckFault.{IsShelfText, IsCheckFault}
 -- a level that breaks a rule is told as a no, and whatever else is at fault as a refusal
 abbrev pub check_text : CheckFault → List ℕ
 check_text (Verify level (Refused rank rule)) = codes "no level " ++ decimal level ++ codes " rank " ++ decimal rank ++ codes " rule " ++ rule_name rule
-check_text (Verify level fault) = codes "refused " ++ verify_fault_text fault
-check_text (Table fault) = codes "refused " ++ table_fault_text fault
+check_text (Verify level fault) = codes "refused " ++ words_text (verify_reason_of fault)
+check_text (Table fault) = codes "refused " ++ words_text (table_reason_of fault)
 
 abbrev pub answer_text : Answer → List ℕ
 answer_text (Yes levels limit) = codes "yes levels " ++ decimal levels ++ codes " limit " ++ decimal limit
 answer_text (Fault fault) = check_text fault
-answer_text Read = codes "refused 14 Read"
+answer_text Read = codes "refused " ++ words_text (alone 14)
 
 -- 0 for a yes, and 1 for a no or a refusal
 abbrev pub status_of : Answer → ℕ

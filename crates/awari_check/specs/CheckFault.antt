@@ -1,18 +1,19 @@
 -- Which bytes are the text of a shelf, the first fault of those that are not, and what is printed of it.
 use Rattle.std.specs.Prelude.{◌≡◌, ◌≢◌, ℕ, ◌+◌, List, [], ◌++◌, length, codes}
 use Rattle.std.specs.Fmt.{decimal}
+use Rattle.awari_faults.specs.Refusals.{words_text}
 use Rattle.awari_table.specs.declared.images.Image.{Image}
 use Rattle.awari_table.specs.Shelves.{IsShelf}
 use Rattle.awari_table.specs.Spelling.{block, table_text, line_count, IsImage, AreImages}
-use Rattle.awari_table.specs.TableFault.{IsDueAt, fault_text as table_fault_text}
-use Rattle.awari_verify.specs.VerifyFault.{IsDue, fault_text as verify_fault_text}
+use Rattle.awari_table.specs.TableFault.{IsDueAt, reason_of as table_reason_of}
+use Rattle.awari_verify.specs.VerifyFault.{IsDue, reason_of as verify_reason_of}
 use Rattle.awari_check.specs.declared.checks.CheckFault.{CheckFault}
 use Rattle.awari_check.specs.declared.checks.CheckFault.TheVariants.{Table, Verify}
 
 -- what is printed of each: the fault inside it, behind the level that is not right
-abbrev pub fault_text : CheckFault → List ℕ
-fault_text (Table fault) = table_fault_text fault
-fault_text (Verify level fault) = codes "level " ++ decimal level ++ codes ": " ++ verify_fault_text fault
+abbrev pub printed_text : CheckFault → List ℕ
+printed_text (Table fault) = words_text (table_reason_of fault)
+printed_text (Verify level fault) = codes "level " ++ decimal level ++ codes ": " ++ words_text (verify_reason_of fault)
 
 -- the bytes are the text of these images, each of which is consistent over those before it
 pub record IsShelfText (bytes : List ℕ) (images : List Image) : Type 0 where

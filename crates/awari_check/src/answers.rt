@@ -6,6 +6,7 @@ ghost use Rattle.awari_check.specs.declared.answers.Answer.TheVariants as answer
 ghost use Rattle.awari_check.specs.Answer.{IsAnswer};
 
 use crate::checks::{CheckFault, check};
+use awari_faults::Reason;
 use awari_table::{Counted, TableFault};
 use awari_verify::VerifyFault;
 use std::alloc::Global;
@@ -55,7 +56,7 @@ impl fmt::Display for Answer {
                 CheckFault::Verify { fault, .. } => write!(f, "refused {fault}"),
                 CheckFault::Table { fault } => write!(f, "refused {fault}"),
             },
-            Answer::Read => f.write_str("refused 14 Read"),
+            Answer::Read => write!(f, "refused {}", Reason::alone(14)),
         }
     }
 }

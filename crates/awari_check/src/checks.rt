@@ -29,9 +29,9 @@ pub enum CheckFault {
 
 impl fmt::Display for CheckFault {
     ghost use Rattle.std.specs.Prelude.{Some};
-    ghost use Rattle.awari_check.specs.CheckFault.{fault_text};
+    ghost use Rattle.awari_check.specs.CheckFault.{printed_text};
 
-    ghost output = { λ fault. Some (fault_text fault) };
+    ghost output = { λ fault. Some (printed_text fault) };
 
     fn fmt<W: fmt::Write>(&self, f: &mut fmt::Formatter<W>) -> fmt::Result {
         match *self {

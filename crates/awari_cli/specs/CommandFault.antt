@@ -1,17 +1,18 @@
 -- Why a command that builds ends early.
-use Rattle.std.specs.Prelude.{ℕ, List}
-use Rattle.awari_build.specs.BuildFault.{fault_text as build_fault_text}
-use Rattle.awari_desk.specs.DeskFault.{fault_text as desk_fault_text}
-use Rattle.awari_desk.specs.ServeFault.{fault_text as serve_fault_text}
-use Rattle.awari_folder.specs.FolderFault.{fault_text as folder_fault_text}
-use Rattle.awari_phase.specs.PhaseFault.{fault_text as phase_fault_text}
+use Rattle.std.specs.Prelude.{List, [], ◌∷◌}
+use Rattle.awari_build.specs.BuildFault.{refusal_of as build_refusal_of}
+use Rattle.awari_desk.specs.DeskFault.{reason_of as desk_reason_of}
+use Rattle.awari_desk.specs.ServeFault.{reason_of as serve_reason_of}
+use Rattle.awari_faults.specs.Refusals.{Words}
+use Rattle.awari_folder.specs.FolderFault.{refusal_of as folder_refusal_of}
+use Rattle.awari_phase.specs.PhaseFault.{refusal_of as phase_refusal_of}
 use Rattle.awari_cli.specs.declared.faults.CommandFault.{CommandFault}
 use Rattle.awari_cli.specs.declared.faults.CommandFault.TheVariants.{Folder, Build, Start, Desk, Serve}
 
--- the fault inside it
-abbrev pub fault_text : CommandFault → List ℕ
-fault_text (Folder fault) = folder_fault_text fault
-fault_text (Build fault) = build_fault_text fault
-fault_text (Start fault) = phase_fault_text fault
-fault_text (Desk fault) = desk_fault_text fault
-fault_text (Serve fault) = serve_fault_text fault
+-- what is told of the fault inside it
+abbrev pub refusal_of : CommandFault → List Words
+refusal_of (Folder fault) = folder_refusal_of fault
+refusal_of (Build fault) = build_refusal_of fault
+refusal_of (Start fault) = phase_refusal_of fault
+refusal_of (Desk fault) = desk_reason_of fault ∷ []
+refusal_of (Serve fault) = serve_reason_of fault ∷ []

@@ -2,7 +2,7 @@
 
 ghost use Rattle.std.specs.Prelude.{⊤};
 
-use awari_heard::{Progress, Silent, Told};
+use awari_heard::{Progress, Silent, Stage};
 use rtrb::{Consumer, Producer, RingBuffer};
 use std::alloc::{AllocError, Global};
 
@@ -116,7 +116,7 @@ impl<P: BuildProgress> Progress for Beside<'_, '_, P> {
 
     ghost hears = { λ _ _ _. ⊤ };
 
-    fn hear(&mut self, told: Told) {
+    fn hear(&mut self, told: Stage) {
         self.save.catch_up();
         if self.save.has_printed() {
             self.progress.hear_line();

@@ -92,7 +92,7 @@ pub fn run_build_in<
 {
     match load(&Together(builder.rt), builder.alloc, folder, HIGHEST_LEVEL) {
         Ok(mut stored) => build_up_in(builder, folder, top, &mut stored, writer),
-        Err(fault) => refuse(writer, fault),
+        Err(fault) => refuse(writer, fault.refusal()),
     }
 }
 
@@ -160,7 +160,7 @@ pub(crate) fn build_up_in<
 fn refuse_level<W: Replies>(writer: &mut W, level: u8, fault: CommandFault) -> u8
     ensures { result ≡ 1 }
 {
-    let status = refuse(writer, fault);
+    let status = refuse(writer, fault.refusal());
     if let CommandFault::Build {
         fault: BuildFault::Memory,
     } = fault

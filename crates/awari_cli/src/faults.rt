@@ -6,12 +6,12 @@ ghost use Rattle.awari_cli.specs.declared.faults.CommandFault.TheVariants as com
 
 use awari_build::BuildFault;
 use awari_desk::{DeskFault, ServeFault};
+use awari_faults::Refusal;
 use awari_folder::FolderFault;
 use awari_phase::PhaseFault;
 use std::alloc::AllocError;
-use std::fmt;
 
-/// Why levels are not built, saved or served. It is printed as the fault inside it.
+/// Why levels are not built, saved or served.
 #[derive(Clone, Copy)]
 pub(crate) enum CommandFault {
     /// The folder is not loaded, or a level not saved there.
@@ -69,19 +69,20 @@ impl From<AllocError> for CommandFault {
     }
 }
 
-impl fmt::Display for CommandFault {
-    ghost use Rattle.std.specs.Prelude.{Some};
-    ghost use Rattle.awari_cli.specs.CommandFault.{fault_text};
+impl CommandFault {
+    ghost use Rattle.awari_faults.specs.Parts.{said};
+    ghost use Rattle.awari_cli.specs.CommandFault.{refusal_of};
 
-    ghost output = { λ fault. Some (fault_text fault) };
-
-    fn fmt<W: fmt::Write>(&self, f: &mut fmt::Formatter<W>) -> fmt::Result {
-        match *self {
-            CommandFault::Folder { fault } => write!(f, "{fault}"),
-            CommandFault::Build { fault } => write!(f, "{fault}"),
-            CommandFault::Start { fault } => write!(f, "{fault}"),
-            CommandFault::Desk { fault } => write!(f, "{fault}"),
-            CommandFault::Serve { fault } => write!(f, "{fault}"),
+    /// What is told of the fault inside it.
+    pub(crate) fn refusal(self) -> Refusal
+        ensures { said result ≡ refusal_of self }
+    {
+        match self {
+            CommandFault::Folder { fault } => fault.refusal(),
+            CommandFault::Build { fault } => fault.refusal(),
+            CommandFault::Start { fault } => fault.refusal(),
+            CommandFault::Desk { fault } => Refusal::alone(fault.reason()),
+            CommandFault::Serve { fault } => Refusal::alone(fault.reason()),
         }
     }
 }

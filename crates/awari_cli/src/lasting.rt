@@ -2,7 +2,7 @@
 
 ghost use Rattle.std.specs.Prelude.{⊤};
 
-use awari_heard::{Progress, Told};
+use awari_heard::{Progress, Stage};
 use rtrb::{Consumer, Producer, RingBuffer};
 use std::alloc::{AllocError, Global};
 
@@ -28,7 +28,7 @@ impl Progress for WhileServed {
 
     ghost hears = { λ old _ new. new ≡ old };
 
-    fn hear(&mut self, _told: Told) {}
+    fn hear(&mut self, _told: Stage) {}
 
     fn is_wanted(&mut self) -> bool {
         !self.service.is_abandoned()

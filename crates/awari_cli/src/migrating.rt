@@ -54,7 +54,7 @@ pub fn run_migrate<F: Folder, G: Folder, W: Replies>(
 {
     let migrated = match migrate(alloc, from, to) {
         Ok(migrated) => migrated,
-        Err(fault) => return refuse(writer, fault),
+        Err(fault) => return refuse(writer, fault.refusal()),
     };
     if !print_migrated(&migrated.limits, writer) {
         return 1;

@@ -5,7 +5,7 @@ ghost use Rattle.std.specs.Prelude.{⊤};
 use crate::beside::BuildProgress;
 use crate::estimates::Estimate;
 use awari_answers::print;
-use awari_heard::{Progress, Told};
+use awari_heard::{Progress, Stage};
 use std::fmt::{self, Display};
 use std::io::Write;
 use std::time::{Clock, Duration, Instant};
@@ -178,11 +178,11 @@ impl<C: Clock, E: Write> Progress for ProgressLines<'_, C, E> {
 
     ghost hears = { λ _ _ _. ⊤ };
 
-    fn hear(&mut self, told: Told) {
+    fn hear(&mut self, told: Stage) {
         match told {
-            Told::Begun { level, boards } => self.begin(level, boards),
-            Told::Settled { gain, boards } => self.settled(gain, boards),
-            Told::Planned => self.plan(),
+            Stage::Begun { level, boards } => self.begin(level, boards),
+            Stage::Settled { gain, boards } => self.settled(gain, boards),
+            Stage::Planned => self.plan(),
         }
     }
 }

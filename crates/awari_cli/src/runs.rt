@@ -186,7 +186,7 @@ fn run_move<W: Replies>(board: &str, pit: u8, writer: &mut W) -> u8
 {
     match play_on(board.as_bytes(), pit) {
         Ok(moved) => status_of(print(writer, &Played(moved))),
-        Err(fault) => refuse(writer, fault),
+        Err(fault) => refuse(writer, fault.refusal()),
     }
 }
 
@@ -197,6 +197,6 @@ fn run_judge<W: Replies>(board: &str, limit: u32, moves: &[&str], writer: &mut W
 {
     match judge(board.as_bytes(), limit, moves) {
         Ok(judgement) => status_of(print(writer, &judgement)),
-        Err(fault) => refuse(writer, fault),
+        Err(fault) => refuse(writer, fault.refusal()),
     }
 }

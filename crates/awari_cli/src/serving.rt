@@ -73,7 +73,7 @@ pub fn run_serve<
                 fault: ServeFault::Write,
             },
         ) => 1,
-        Err(fault) => refuse(&mut streams.output, fault),
+        Err(fault) => refuse(&mut streams.output, fault.refusal()),
     }
 }
 

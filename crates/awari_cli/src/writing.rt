@@ -138,7 +138,7 @@ fn run_build_on<
         Err(fault) => {
             host.tell(name, &folder, &mut streams.errors);
             host.close(name, folder);
-            return refuse(&mut streams.output, fault);
+            return refuse(&mut streams.output, fault.refusal());
         }
     }
     tell_needs(host, host.levels_in(&folder), build, &mut streams.errors);
@@ -170,7 +170,7 @@ fn run_build_of<
         &mut streams.errors,
     ) {
         Ok(stored) => stored,
-        Err(fault) => return refuse(&mut streams.output, fault),
+        Err(fault) => return refuse(&mut streams.output, fault.refusal()),
     };
     let output = &mut streams.output;
     if build.query.progress {
@@ -225,7 +225,7 @@ pub(crate) fn run_estimate<'a, H: Host<'a>, W: Replies, E: Write>(
 {
     let first = match first_to_build(host, query.folder, errors) {
         Ok(first) => first,
-        Err(fault) => return refuse(output, fault),
+        Err(fault) => return refuse(output, fault.refusal()),
     };
     let estimate = Estimate::of(first, query.top);
     // There is nowhere to say that this could not be written.

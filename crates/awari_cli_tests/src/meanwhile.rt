@@ -6,7 +6,7 @@ use crate::expect::expect_equal;
 use crate::plain::{build_by, memory_folder, refuse};
 use awari_cli::BuildProgress;
 use awari_file_tests::MemoryFolder;
-use awari_heard::{Progress, Told};
+use awari_heard::{Progress, Stage};
 use std::process::Abort;
 use std::str;
 use std::sync::Wait;
@@ -45,8 +45,8 @@ impl Progress for Wanting {
 
     ghost hears = { λ _ _ _. ⊤ };
 
-    fn hear(&mut self, told: Told) {
-        if let Told::Begun { level, .. } = told {
+    fn hear(&mut self, told: Stage) {
+        if let Stage::Begun { level, .. } = told {
             self.level = level;
             self.begun = self.begun.saturating_add(1);
         }

@@ -3,7 +3,7 @@
 use crate::expect::expect_equal;
 use crate::plain::build_telling;
 use awari_cli::{BuildProgress, HowTold, ProgressLines};
-use awari_heard::{Progress, Told};
+use awari_heard::{Progress, Stage};
 use std::process::Abort;
 use std::sync::Wait;
 use std::sync::atomic::{AtomicU64, Ordering};
@@ -137,12 +137,12 @@ fn a_line_stays_on_a_terminal_between_those_of_the_next_level(rt: HostRuntime) {
     let mut errors = Vec::new(rt.alloc());
     let how = HowTold { top: 1, anew: true };
     let mut lines = ProgressLines::new(&clock, &mut errors, how);
-    lines.hear(Told::Begun {
+    lines.hear(Stage::Begun {
         level: 1,
         boards: 12,
     });
     lines.hear_line();
-    lines.hear(Told::Settled { gain: 1, boards: 0 });
-    lines.hear(Told::Planned);
+    lines.hear(Stage::Settled { gain: 1, boards: 0 });
+    lines.hear(Stage::Planned);
     expect_equal(&rt, "told", str::from_utf8(&errors), Ok(BESIDE_A_LINE));
 }

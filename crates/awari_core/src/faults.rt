@@ -1,9 +1,11 @@
 //! Why a core refuses.
 
 ghost use Rattle.std.specs.Prelude.{◌≡◌};
-ghost use Rattle.awari_core.specs.CoreFault.{number_of};
+ghost use Rattle.awari_faults.specs.Parts.{reason_said};
+ghost use Rattle.awari_core.specs.CoreFault.{number_of, reason_of};
 ghost use Rattle.awari_core.specs.declared.faults.CoreFault.TheVariants.{Memory};
 
+use awari_faults::Reason;
 use std::alloc::AllocError;
 use std::fmt;
 use thiserror::Error;
@@ -40,24 +42,24 @@ impl CoreFault {
             CoreFault::NotQuiet => 39,
         }
     }
+
+    /// What is told of it: its number.
+    pub fn reason(self) -> Reason
+        ensures { reason_said result ≡ reason_of self }
+    {
+        Reason::alone(self.number())
+    }
 }
 
 impl fmt::Display for CoreFault {
     ghost use Rattle.std.specs.Prelude.{Some};
-    ghost use Rattle.awari_core.specs.CoreFault.{fault_text};
+    ghost use Rattle.awari_faults.specs.Refusals.{words_text};
+    ghost use Rattle.awari_core.specs.CoreFault.{reason_of};
 
-    ghost output = { λ fault. Some (fault_text fault) };
+    ghost output = { λ fault. Some (words_text (reason_of fault)) };
 
     fn fmt<W: fmt::Write>(&self, f: &mut fmt::Formatter<W>) -> fmt::Result {
-        let number = self.number();
-        match *self {
-            CoreFault::NotEnabled => write!(f, "{number} NotEnabled"),
-            CoreFault::Owners => write!(f, "{number} Owners"),
-            CoreFault::Room => write!(f, "{number} Room"),
-            CoreFault::TooHigh => write!(f, "{number} TooHigh"),
-            CoreFault::Memory => write!(f, "{number} Memory"),
-            CoreFault::NotQuiet => write!(f, "{number} NotQuiet"),
-        }
+        write!(f, "{}", self.reason())
     }
 }
 

@@ -8,7 +8,7 @@ use crate::letters::{Head, Letter};
 use crate::listening::since;
 use crate::posting::send_all;
 use awari_block::Stake;
-use awari_heard::{Progress, Told};
+use awari_heard::{Progress, Stage};
 use awari_index::Index;
 use awari_lines::Ends;
 use awari_segments::{
@@ -236,7 +236,7 @@ impl Member {
 fn is_wanted_at<P: Progress>(stake: Stake, boards: usize, progress: &mut P) -> bool
     ensures { result ≡ false → P.stops }
 {
-    progress.hear(Told::Settled {
+    progress.hear(Stage::Settled {
         gain: usize::from(stake.gain),
         boards,
     });

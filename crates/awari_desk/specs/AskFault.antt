@@ -1,22 +1,17 @@
 -- Why a board's entry is not answered.
 use Rattle.std.specs.Prelude.{ℕ, List, [], ◌∷◌, ◌++◌, codes}
+use Rattle.awari_faults.specs.Refusals.{Words, alone, with_number}
 use Rattle.std.specs.Fmt.{decimal}
 use Rattle.awari_desk.specs.declared.faults.AskFault.{AskFault}
 use Rattle.awari_desk.specs.declared.faults.AskFault.TheVariants.{NotYet, Gone}
 
--- the number of each fault
+-- what is told of each
+abbrev pub reason_of : AskFault → Words
+reason_of (NotYet levels) = with_number 74 (codes "levels") levels
+reason_of Gone = alone 75
+
 abbrev pub number_of : AskFault → ℕ
-number_of (NotYet levels) = 74
-number_of Gone = 75
-
-abbrev pub name_of : AskFault → List ℕ
-name_of (NotYet levels) = codes "NotYet"
-name_of Gone = codes "Gone"
-
--- what is printed of each: its number, its name, and its field with its name
-abbrev pub fault_text : AskFault → List ℕ
-fault_text (NotYet levels) = codes "74 NotYet levels " ++ decimal levels
-fault_text Gone = codes "75 Gone"
+number_of fault = (reason_of fault).number
 
 -- the line by which a service tells of it
 abbrev pub line_of : AskFault → List ℕ

@@ -5,7 +5,7 @@ use Rattle.awari_table.specs.declared.images.Entry.{Entry}
 use Rattle.awari_table.specs.Images.{entry_of}
 use Rattle.awari_table.specs.Shelves.{Consistent, IsShelf}
 use Rattle.awari_desk.specs.Answering.{Answering}
-use Rattle.awari_desk.specs.AskFault.{line_of, name_of, number_of}
+use Rattle.awari_desk.specs.AskFault.{line_of, number_of}
 use Rattle.awari_desk.specs.Books.{BeginsWith}
 use Rattle.awari_desk.specs.declared.faults.AskFault.{AskFault}
 use Rattle.awari_desk.specs.declared.faults.AskFault.TheVariants.{NotYet, Gone}
@@ -35,7 +35,7 @@ IsWeighing replies known book board (Err Gone) = book ≡ known
 
 -- how a reader answers a service: by the books that it knows, of which each is a shelf
 abbrev pub by_reader : Answering (List Image) AskFault
-by_reader = record { seen = length; entry = IsAnswer; moves = IsWeighing; line = line_of; number = number_of; name = name_of }
+by_reader = record { seen = length; entry = IsAnswer; moves = IsWeighing; line = line_of; number = number_of }
 
 -- the levels that are published
 abbrev pub book_of : Pages → List Image

@@ -1,6 +1,6 @@
 -- Why a service ends early.
-use Rattle.std.specs.Prelude.{◌≡◌, ◌<◌, ℕ, List, ◌++◌, length, codes, Option, IfSome, Result, Err, OnOk, OnErr}
-use Rattle.std.specs.Fmt.{decimal}
+use Rattle.std.specs.Prelude.{◌≡◌, ◌<◌, ℕ, List, length, Option, IfSome, Result, Err, OnOk, OnErr}
+use Rattle.awari_faults.specs.Refusals.{Words, alone}
 use Rattle.awari_streams.specs.Counted.{Grew}
 use Rattle.awari_desk.specs.declared.faults.ServeFault.{ServeFault}
 use Rattle.awari_desk.specs.declared.faults.ServeFault.TheVariants.{Read, TooLong, Write}
@@ -11,14 +11,9 @@ number_of Read = 90
 number_of TooLong = 91
 number_of Write = 92
 
-abbrev pub name_of : ServeFault → List ℕ
-name_of Read = codes "Read"
-name_of TooLong = codes "TooLong"
-name_of Write = codes "Write"
-
--- what is printed of each: its number and its name
-abbrev pub fault_text : ServeFault → List ℕ
-fault_text fault = decimal (number_of fault) ++ codes " " ++ name_of fault
+-- what is told of each
+abbrev pub reason_of : ServeFault → Words
+reason_of fault = alone (number_of fault)
 
 -- It is refused if the writer gave a fault or took no byte, as 92, and only then.
 pub record TellsWriter {X : Type 0} (result : Result X ServeFault) (old new : ℕ) : Type 0 where

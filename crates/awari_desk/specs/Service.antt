@@ -5,12 +5,13 @@ use Rattle.std.specs.Io.KnownBytes.{Appends}
 use Rattle.arrayvec.specs.ArrayVec.{ArrayVec}
 use Rattle.awari_board.specs.Rules.{IsBoard}
 use Rattle.awari_board.specs.Text.{text_of}
-use Rattle.awari_board.specs.BoardFault.{IsFaulty, fault_text as board_fault_text}
+use Rattle.awari_board.specs.BoardFault.{IsFaulty, reason_of as board_reason_of}
+use Rattle.awari_faults.specs.Refusals.{words_text}
 use Rattle.awari_table.specs.Spelling.{entry_line}
 use Rattle.awari_shown.specs.Json.{refusal_json, weighed_json}
 use Rattle.awari_shown.specs.Moves.{weighed_text}
 use Rattle.awari_desk.specs.Answering.{Answering}
-use Rattle.awari_desk.specs.ProbeFault.{name_of, number_of}
+use Rattle.awari_desk.specs.ProbeFault.{number_of}
 use Rattle.awari_desk.specs.declared.faults.ProbeFault.{ProbeFault}
 use Rattle.awari_desk.specs.declared.faults.ProbeFault.TheVariants.{Board, Ask}
 use Rattle.awari_desk.specs.declared.answers.Answer.{Answer}
@@ -22,9 +23,9 @@ abbrev pub answer_text : {S F : Type 0} → Answering S F → Answer F → List 
 answer_text asked (Found entry) = entry_line entry
 answer_text asked (Moves weighed) = weighed_text weighed ++ 10 ∷ []
 answer_text asked (Probed board weighed) = weighed_json board weighed
-answer_text asked (Unprobed request fault) = refusal_json request.items (number_of asked fault) (name_of asked fault)
+answer_text asked (Unprobed request fault) = refusal_json request.items (number_of asked fault)
 answer_text asked (Unanswered fault) = asked.line fault
-answer_text asked (Refused fault) = codes "refused " ++ board_fault_text fault ++ 10 ∷ []
+answer_text asked (Refused fault) = codes "refused " ++ words_text (board_reason_of fault) ++ 10 ∷ []
 answer_text asked (Seen levels) = codes "seen " ++ decimal levels ++ 10 ∷ []
 answer_text asked Bye = codes "bye" ++ 10 ∷ []
 answer_text asked What = codes "what" ++ 10 ∷ []

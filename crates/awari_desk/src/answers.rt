@@ -1,8 +1,9 @@
 //! What a request of the service is answered by.
 
 ghost use Rattle.std.specs.Prelude.{◌≡◌, ◌≤◌, ◌++◌, ◌∷◌, [], codes, length};
-ghost use Rattle.awari_board.specs.BoardFault.{fault_text};
-ghost use Rattle.awari_desk.specs.ProbeFault.{name_of as probe_name_of, number_of as probe_number_of};
+ghost use Rattle.awari_board.specs.BoardFault.{reason_of};
+ghost use Rattle.awari_faults.specs.Refusals.{words_text};
+ghost use Rattle.awari_desk.specs.ProbeFault.{number_of as probe_number_of};
 ghost use Rattle.awari_desk.specs.Service.{answer_text};
 ghost use Rattle.awari_shown.specs.Moves.{weighed_text};
 
@@ -13,7 +14,7 @@ use arrayvec::ArrayVec;
 use awari_board::{Board, BoardFault};
 use awari_members::{AnswerText, text_of_line};
 use awari_play::Weighed;
-use awari_shown::{refusal_json, weighed_json, weighed_text};
+use awari_shown::{push_reason, refusal_json, weighed_json, weighed_text};
 use awari_streams::{TextLine, numbered_line, push_text};
 use awari_table::{Entry, line_of_entry};
 
@@ -66,13 +67,13 @@ pub(crate) fn line_of_text(text: &[u8]) -> TextLine
 }
 
 fn refused_line_of(fault: BoardFault) -> TextLine
-    ensures { result.items ≡ codes "refused " ++ fault_text fault ++ 10 ∷ [] }
+    ensures { result.items ≡ codes "refused " ++ words_text (reason_of fault) ++ 10 ∷ [] }
 {
-    match fault {
-        BoardFault::Shape => line_of_text(b"refused 1 Shape\n"),
-        BoardFault::Number => line_of_text(b"refused 2 Number\n"),
-        BoardFault::TooMany => line_of_text(b"refused 3 TooMany\n"),
-    }
+    let mut line = TextLine::new();
+    push_text(&mut line, b"refused ");
+    push_reason(&mut line, fault.number());
+    line.push(b'\n');
+    line
 }
 
 /// The lines of an answer, each with its line feed; those of moves have an empty line behind them.
@@ -83,11 +84,9 @@ pub(crate) fn text_of_answer<O: Oracle>(answer: &Answer<O::Fault>) -> AnswerText
         Answer::Found { entry } => text_of_line(&line_of_entry(*entry)),
         Answer::Moves { weighed } => text_of_moves(weighed),
         Answer::Probed { board, weighed } => weighed_json(board, weighed),
-        Answer::Unprobed { request, fault } => refusal_json(
-            request.as_slice(),
-            probe_number::<O>(fault),
-            probe_name::<O>(fault),
-        ),
+        Answer::Unprobed { request, fault } => {
+            refusal_json(request.as_slice(), probe_number::<O>(fault))
+        }
         Answer::Unanswered { fault } => text_of_line(&O::line_of(fault)),
         Answer::Refused { fault } => text_of_line(&refused_line_of(*fault)),
         Answer::Seen { levels } => text_of_line(&numbered_line(b"seen ", *levels)),
@@ -103,17 +102,6 @@ fn probe_number<O: Oracle>(fault: &ProbeFault<O::Fault>) -> u8
     match fault {
         ProbeFault::Board { fault } => fault.number(),
         ProbeFault::Ask { fault } => O::number_of(fault),
-    }
-}
-
-/// The name of the fault inside it.
-fn probe_name<O: Oracle>(fault: &ProbeFault<O::Fault>) -> &'static str
-    ensures name { result.now ≡ probe_name_of O.answering fault.now }
-    ensures short { length result.now ≤ 20 }
-{
-    match fault {
-        ProbeFault::Board { fault } => fault.name(),
-        ProbeFault::Ask { fault } => O::name_of(fault),
     }
 }
 

@@ -1,12 +1,14 @@
 //! Why a call of a desk is refused.
 
 ghost use Rattle.std.specs.Prelude.{◌≡◌};
-ghost use Rattle.awari_desk.specs.AskFault.{number_of as ask_number_of};
-ghost use Rattle.awari_desk.specs.DeskFault.{number_of as desk_number_of};
-ghost use Rattle.awari_desk.specs.ServeFault.{number_of as serve_number_of};
+ghost use Rattle.awari_faults.specs.Parts.{reason_said};
+ghost use Rattle.awari_desk.specs.AskFault.{number_of as ask_number_of, reason_of as ask_reason_of};
+ghost use Rattle.awari_desk.specs.DeskFault.{number_of as desk_number_of, reason_of as desk_reason_of};
+ghost use Rattle.awari_desk.specs.ServeFault.{number_of as serve_number_of, reason_of as serve_reason_of};
 ghost use Rattle.awari_desk.specs.declared.faults.DeskFault.TheVariants.{Memory};
 
 use awari_board::BoardFault;
+use awari_faults::Reason;
 use std::alloc::AllocError;
 use std::fmt;
 use thiserror::Error;
@@ -34,21 +36,24 @@ impl DeskFault {
             DeskFault::Memory => 73,
         }
     }
+
+    /// What is told of it: its number.
+    pub fn reason(self) -> Reason
+        ensures { reason_said result ≡ desk_reason_of self }
+    {
+        Reason::alone(self.number())
+    }
 }
 
 impl fmt::Display for DeskFault {
     ghost use Rattle.std.specs.Prelude.{Some};
-    ghost use Rattle.awari_desk.specs.DeskFault.{fault_text};
+    ghost use Rattle.awari_faults.specs.Refusals.{words_text};
+    ghost use Rattle.awari_desk.specs.DeskFault.{reason_of};
 
-    ghost output = { λ fault. Some (fault_text fault) };
+    ghost output = { λ fault. Some (words_text (reason_of fault)) };
 
     fn fmt<W: fmt::Write>(&self, f: &mut fmt::Formatter<W>) -> fmt::Result {
-        let number = self.number();
-        match *self {
-            DeskFault::NotNext => write!(f, "{number} NotNext"),
-            DeskFault::Readers => write!(f, "{number} Readers"),
-            DeskFault::Memory => write!(f, "{number} Memory"),
-        }
+        write!(f, "{}", self.reason())
     }
 }
 
@@ -75,24 +80,29 @@ impl AskFault {
     pub fn number(self) -> u8
         ensures { result ≡ ask_number_of self }
     {
+        self.reason().number
+    }
+
+    /// What is told of it: its number, and how many levels there are.
+    pub fn reason(self) -> Reason
+        ensures { reason_said result ≡ ask_reason_of self }
+    {
         match self {
-            AskFault::NotYet { .. } => 74,
-            AskFault::Gone => 75,
+            AskFault::NotYet { levels } => Reason::with_number(74, "levels", u128::from(levels)),
+            AskFault::Gone => Reason::alone(75),
         }
     }
 }
 
 impl fmt::Display for AskFault {
     ghost use Rattle.std.specs.Prelude.{Some};
-    ghost use Rattle.awari_desk.specs.AskFault.{fault_text};
+    ghost use Rattle.awari_faults.specs.Refusals.{words_text};
+    ghost use Rattle.awari_desk.specs.AskFault.{reason_of};
 
-    ghost output = { λ fault. Some (fault_text fault) };
+    ghost output = { λ fault. Some (words_text (reason_of fault)) };
 
     fn fmt<W: fmt::Write>(&self, f: &mut fmt::Formatter<W>) -> fmt::Result {
-        match *self {
-            AskFault::NotYet { levels } => write!(f, "74 NotYet levels {levels}"),
-            AskFault::Gone => write!(f, "75 Gone"),
-        }
+        write!(f, "{}", self.reason())
     }
 }
 
@@ -127,20 +137,23 @@ impl ServeFault {
             ServeFault::Write => 92,
         }
     }
+
+    /// What is told of it: its number.
+    pub fn reason(self) -> Reason
+        ensures { reason_said result ≡ serve_reason_of self }
+    {
+        Reason::alone(self.number())
+    }
 }
 
 impl fmt::Display for ServeFault {
     ghost use Rattle.std.specs.Prelude.{Some};
-    ghost use Rattle.awari_desk.specs.ServeFault.{fault_text};
+    ghost use Rattle.awari_faults.specs.Refusals.{words_text};
+    ghost use Rattle.awari_desk.specs.ServeFault.{reason_of};
 
-    ghost output = { λ fault. Some (fault_text fault) };
+    ghost output = { λ fault. Some (words_text (reason_of fault)) };
 
     fn fmt<W: fmt::Write>(&self, f: &mut fmt::Formatter<W>) -> fmt::Result {
-        let number = self.number();
-        match *self {
-            ServeFault::Read => write!(f, "{number} Read"),
-            ServeFault::TooLong => write!(f, "{number} TooLong"),
-            ServeFault::Write => write!(f, "{number} Write"),
-        }
+        write!(f, "{}", self.reason())
     }
 }

@@ -1,6 +1,6 @@
 //! Who is asked by a service.
 
-ghost use Rattle.std.specs.Prelude.{◌≡◌, ◌≤◌, length};
+ghost use Rattle.std.specs.Prelude.{◌≡◌};
 ghost use Rattle.awari_desk.specs.Answering.{Answering};
 
 use awari_board::Board;
@@ -35,9 +35,4 @@ pub trait Oracle {
     /// The number of a refusal.
     fn number_of(fault: &Self::Fault) -> u8
         ensures { result ≡ (answering).number fault.now };
-
-    /// The name of a refusal, of at most 20 bytes.
-    fn name_of(fault: &Self::Fault) -> &'static str
-        ensures name { result.now ≡ (answering).name fault.now }
-        ensures short { length result.now ≤ 20 };
 }

@@ -149,11 +149,4 @@ impl Oracle for Reader {
     fn number_of(fault: &AskFault) -> u8 {
         fault.number()
     }
-
-    fn name_of(fault: &AskFault) -> &'static str {
-        match fault {
-            AskFault::NotYet { .. } => "NotYet",
-            AskFault::Gone => "Gone",
-        }
-    }
 }

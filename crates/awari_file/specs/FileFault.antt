@@ -1,6 +1,6 @@
--- The numbers of the refusals, and what is printed of them.
-use Rattle.std.specs.Prelude.{ℕ, List, ◌++◌, codes}
-use Rattle.std.specs.Fmt.{decimal}
+-- The numbers of the refusals, and what is told of them.
+use Rattle.std.specs.Prelude.{ℕ}
+use Rattle.awari_faults.specs.Refusals.{Words, alone}
 use Rattle.awari_file.specs.declared.faults.FileFault.{FileFault}
 use Rattle.awari_file.specs.declared.faults.FileFault.TheVariants.{Truncated, Magic, Version, LevelOutOfRange, Count, EntryForm, Digest, Trailing, Read, Memory, Write}
 
@@ -17,19 +17,6 @@ number_of Read = 68
 number_of Memory = 69
 number_of Write = 70
 
-abbrev pub name_of : FileFault → List ℕ
-name_of Truncated = codes "Truncated"
-name_of Magic = codes "Magic"
-name_of Version = codes "Version"
-name_of LevelOutOfRange = codes "LevelOutOfRange"
-name_of Count = codes "Count"
-name_of EntryForm = codes "EntryForm"
-name_of Digest = codes "Digest"
-name_of Trailing = codes "Trailing"
-name_of Read = codes "Read"
-name_of Memory = codes "Memory"
-name_of Write = codes "Write"
-
--- what is printed of each: its number and its name
-abbrev pub fault_text : FileFault → List ℕ
-fault_text fault = decimal (number_of fault) ++ codes " " ++ name_of fault
+-- what is told of each
+abbrev pub reason_of : FileFault → Words
+reason_of fault = alone (number_of fault)

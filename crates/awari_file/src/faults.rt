@@ -1,8 +1,10 @@
 //! Why the file of a level is not read or written.
 
-ghost use Rattle.std.specs.Prelude.{◌≡◌, ◌≤◌, length};
+ghost use Rattle.std.specs.Prelude.{◌≡◌};
+ghost use Rattle.awari_faults.specs.Parts.{reason_said};
 ghost use Rattle.awari_file.specs.declared.faults.FileFault.TheVariants.{Memory};
 
+use awari_faults::Reason;
 use std::alloc::AllocError;
 use std::fmt;
 use thiserror::Error;
@@ -36,7 +38,7 @@ pub enum FileFault {
 }
 
 impl FileFault {
-    ghost use Rattle.awari_file.specs.FileFault.{name_of, number_of};
+    ghost use Rattle.awari_file.specs.FileFault.{number_of, reason_of};
 
     /// The number of this refusal, 60 to 70.
     pub fn number(self) -> u8
@@ -57,35 +59,23 @@ impl FileFault {
         }
     }
 
-    /// The name of this refusal.
-    pub fn name(self) -> &'static str
-        ensures name { result.now ≡ name_of self }
-        ensures short { length result.now ≤ 20 }
+    /// What is told of it: its number.
+    pub fn reason(self) -> Reason
+        ensures { reason_said result ≡ reason_of self }
     {
-        match self {
-            FileFault::Truncated => "Truncated",
-            FileFault::Magic => "Magic",
-            FileFault::Version => "Version",
-            FileFault::LevelOutOfRange => "LevelOutOfRange",
-            FileFault::Count => "Count",
-            FileFault::EntryForm => "EntryForm",
-            FileFault::Digest => "Digest",
-            FileFault::Trailing => "Trailing",
-            FileFault::Read => "Read",
-            FileFault::Memory => "Memory",
-            FileFault::Write => "Write",
-        }
+        Reason::alone(self.number())
     }
 }
 
 impl fmt::Display for FileFault {
     ghost use Rattle.std.specs.Prelude.{Some};
-    ghost use Rattle.awari_file.specs.FileFault.{fault_text};
+    ghost use Rattle.awari_faults.specs.Refusals.{words_text};
+    ghost use Rattle.awari_file.specs.FileFault.{reason_of};
 
-    ghost output = { λ fault. Some (fault_text fault) };
+    ghost output = { λ fault. Some (words_text (reason_of fault)) };
 
     fn fmt<W: fmt::Write>(&self, f: &mut fmt::Formatter<W>) -> fmt::Result {
-        write!(f, "{} {}", self.number(), self.name())
+        write!(f, "{}", self.reason())
     }
 }
 

@@ -1,40 +1,34 @@
--- The refusals: their numbers, what is printed of them, and the level that they name.
-use Rattle.std.specs.Prelude.{◌≡◌, ◌≢◌, ◌≤◌, ℕ, List, ◌++◌, codes}
-use Rattle.std.specs.Fmt.{decimal}
+-- The refusals: their numbers, what is told of them, and the level that they name.
+use Rattle.std.specs.Prelude.{◌≡◌, ◌≢◌, ◌≤◌, ℕ, List, [], ◌∷◌, codes}
+use Rattle.awari_faults.specs.Refusals.{Words, alone, with_number}
 use Rattle.awari_table.specs.declared.TheConstants.{HIGHEST_LEVEL}
-use Rattle.awari_file.specs.FileFault.{fault_text as file_fault_text}
+use Rattle.awari_file.specs.FileFault.{reason_of as file_reason_of}
 use Rattle.awari_file.specs.declared.faults.FileFault.TheVariants as file
-use Rattle.awari_verify.specs.VerifyFault.{fault_text as verify_fault_text}
+use Rattle.awari_verify.specs.VerifyFault.{reason_of as verify_reason_of}
 use Rattle.awari_folder.specs.declared.faults.FolderFault.{FolderFault}
 use Rattle.awari_folder.specs.declared.faults.FolderFault.TheVariants.{Below, File, Open, Verify, Memory, Occupied, Old}
 
+-- what is told of it but for the fault inside it: its number, and the level that it names
+abbrev pub reason_of : FolderFault → Words
+reason_of (Below level) = with_number 80 (codes "level") level
+reason_of (File level fault) = with_number 81 (codes "level") level
+reason_of (Open level) = with_number 82 (codes "level") level
+reason_of (Verify level fault) = with_number 83 (codes "level") level
+reason_of Memory = alone 84
+reason_of (Occupied level) = with_number 85 (codes "level") level
+reason_of (Old level) = with_number 86 (codes "level") level
+
 abbrev pub number_of : FolderFault → ℕ
-number_of (Below level) = 80
-number_of (File level fault) = 81
-number_of (Open level) = 82
-number_of (Verify level fault) = 83
-number_of Memory = 84
-number_of (Occupied level) = 85
-number_of (Old level) = 86
+number_of fault = (reason_of fault).number
 
-abbrev pub name_of : FolderFault → List ℕ
-name_of (Below level) = codes "Below"
-name_of (File level fault) = codes "File"
-name_of (Open level) = codes "Open"
-name_of (Verify level fault) = codes "Verify"
-name_of Memory = codes "Memory"
-name_of (Occupied level) = codes "Occupied"
-name_of (Old level) = codes "Old"
+-- what is told of the fault inside it, and of both
+abbrev pub inside_of : FolderFault → List Words
+inside_of (File level fault) = file_reason_of fault ∷ []
+inside_of (Verify level fault) = verify_reason_of fault ∷ []
+inside_of fault = []
 
--- what is printed of each: its number, its name, its level, and the fault inside it
-abbrev pub fault_text : FolderFault → List ℕ
-fault_text (Below level) = codes "80 Below level " ++ decimal level
-fault_text (File level fault) = codes "81 File level " ++ decimal level ++ codes ": " ++ file_fault_text fault
-fault_text (Open level) = codes "82 Open level " ++ decimal level
-fault_text (Verify level fault) = codes "83 Verify level " ++ decimal level ++ codes ": " ++ verify_fault_text fault
-fault_text Memory = codes "84 Memory"
-fault_text (Occupied level) = codes "85 Occupied level " ++ decimal level
-fault_text (Old level) = codes "86 Old level " ++ decimal level
+abbrev pub refusal_of : FolderFault → List Words
+refusal_of fault = reason_of fault ∷ inside_of fault
 
 -- The refusal names this level. Want of memory names none, and is not told as a fault of a file.
 abbrev pub Names : ℕ → FolderFault → Type 0

@@ -1,8 +1,10 @@
 //! Why a folder is not loaded or brought over, or a level not saved.
 
-ghost use Rattle.std.specs.Prelude.{◌≡◌, ◌≤◌, length};
+ghost use Rattle.std.specs.Prelude.{◌≡◌};
+ghost use Rattle.awari_faults.specs.Parts.{reason_said, said};
 ghost use Rattle.awari_folder.specs.declared.faults.FolderFault.TheVariants.{Memory};
 
+use awari_faults::{Reason, Refusal};
 use awari_file::FileFault;
 use awari_verify::VerifyFault;
 use std::alloc::{AllocError, AllocFailed};
@@ -33,58 +35,56 @@ pub enum FolderFault {
 }
 
 impl FolderFault {
-    ghost use Rattle.awari_folder.specs.FolderFault.{name_of, number_of};
+    ghost use Rattle.awari_folder.specs.FolderFault.{number_of, refusal_of, reason_of};
 
     /// The number of this refusal, 80 to 86.
     pub fn number(self) -> u8
         ensures { result ≡ number_of self }
     {
+        self.reason().number
+    }
+
+    /// What is told of it, but for the fault inside it: its number, and the level.
+    pub fn reason(self) -> Reason
+        ensures { reason_said result ≡ reason_of self }
+    {
         match self {
-            FolderFault::Below { .. } => 80,
-            FolderFault::File { .. } => 81,
-            FolderFault::Open { .. } => 82,
-            FolderFault::Verify { .. } => 83,
-            FolderFault::Memory => 84,
-            FolderFault::Occupied { .. } => 85,
-            FolderFault::Old { .. } => 86,
+            FolderFault::Below { level } => Reason::with_number(80, "level", u128::from(level)),
+            FolderFault::File { level, .. } => Reason::with_number(81, "level", u128::from(level)),
+            FolderFault::Open { level } => Reason::with_number(82, "level", u128::from(level)),
+            FolderFault::Verify { level, .. } => Reason::with_number(83, "level", u128::from(level)),
+            FolderFault::Memory => Reason::alone(84),
+            FolderFault::Occupied { level } => Reason::with_number(85, "level", u128::from(level)),
+            FolderFault::Old { level } => Reason::with_number(86, "level", u128::from(level)),
         }
     }
 
-    /// The name of this refusal.
-    pub fn name(self) -> &'static str
-        ensures name { result.now ≡ name_of self }
-        ensures short { length result.now ≤ 20 }
+    /// What is told of it, and of the fault inside it.
+    pub fn refusal(self) -> Refusal
+        ensures { said result ≡ refusal_of self }
     {
+        let reason = self.reason();
         match self {
-            FolderFault::Below { .. } => "Below",
-            FolderFault::File { .. } => "File",
-            FolderFault::Open { .. } => "Open",
-            FolderFault::Verify { .. } => "Verify",
-            FolderFault::Memory => "Memory",
-            FolderFault::Occupied { .. } => "Occupied",
-            FolderFault::Old { .. } => "Old",
+            FolderFault::File { fault, .. } => Refusal::around(reason, fault.reason()),
+            FolderFault::Verify { fault, .. } => Refusal::around(reason, fault.reason()),
+            FolderFault::Below { .. }
+            | FolderFault::Open { .. }
+            | FolderFault::Memory
+            | FolderFault::Occupied { .. }
+            | FolderFault::Old { .. } => Refusal::alone(reason),
         }
     }
 }
 
 impl fmt::Display for FolderFault {
     ghost use Rattle.std.specs.Prelude.{Some};
-    ghost use Rattle.awari_folder.specs.FolderFault.{fault_text};
+    ghost use Rattle.awari_faults.specs.Refusals.{refusal_text};
+    ghost use Rattle.awari_folder.specs.FolderFault.{refusal_of};
 
-    ghost output = { λ fault. Some (fault_text fault) };
+    ghost output = { λ fault. Some (refusal_text (refusal_of fault)) };
 
     fn fmt<W: fmt::Write>(&self, f: &mut fmt::Formatter<W>) -> fmt::Result {
-        match *self {
-            FolderFault::Below { level } => write!(f, "80 Below level {level}"),
-            FolderFault::File { level, fault } => write!(f, "81 File level {level}: {fault}"),
-            FolderFault::Open { level } => write!(f, "82 Open level {level}"),
-            FolderFault::Verify { level, fault } => {
-                write!(f, "83 Verify level {level}: {fault}")
-            }
-            FolderFault::Memory => write!(f, "84 Memory"),
-            FolderFault::Occupied { level } => write!(f, "85 Occupied level {level}"),
-            FolderFault::Old { level } => write!(f, "86 Old level {level}"),
-        }
+        write!(f, "{}", self.refusal())
     }
 }
 

@@ -28,4 +28,4 @@ mod progress;
 pub use entries::{finish_closed, push_block};
 pub use laws::{closed_parts_are_right, distances_fit, one_part_hears_all, quiet_boards_are_right};
 pub use parallel::finish_parallel;
-pub use progress::{Progress, Silent, Told};
+pub use progress::{Progress, Silent, Stage};

@@ -272,16 +272,16 @@ pub fn run_all_boards<T: Threads + Sync, F: Folder, W: Replies>(
     let Some(level) = level else {
         let shelf = match load_levels(rt, alloc, folder, HIGHEST_LEVEL) {
             Ok(shelf) => shelf,
-            Err(fault) => return refuse(writer, fault),
+            Err(fault) => return refuse(writer, fault.refusal()),
         };
         return match print_levels(rt, alloc, folder, &shelf, writer) {
             Ok(written) => status_of(written),
-            Err(fault) => refuse(writer, fault),
+            Err(fault) => refuse(writer, fault.refusal()),
         };
     };
     let shelf = match load_to(rt, alloc, folder, level) {
         Ok(shelf) => shelf,
-        Err(fault) => return refuse(writer, fault),
+        Err(fault) => return refuse(writer, fault.refusal()),
     };
     let asked = Asked {
         source: Source::Memory(Levels::Right(&shelf)),

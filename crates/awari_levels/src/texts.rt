@@ -30,12 +30,12 @@ pub fn run_text<T: Threads + Sync, F: Folder, W: Replies>(
     let Some(number) = level else {
         return match load_levels(rt, alloc, folder, HIGHEST_LEVEL) {
             Ok(shelf) => status_of(print_text(&shelf, None, writer)),
-            Err(fault) => refuse(writer, fault),
+            Err(fault) => refuse(writer, fault.refusal()),
         };
     };
     match load_to(rt, alloc, folder, number) {
         Ok(shelf) => status_of(print_text(&shelf, Some(number), writer)),
-        Err(fault) => refuse(writer, fault),
+        Err(fault) => refuse(writer, fault.refusal()),
     }
 }
 

@@ -1,6 +1,6 @@
 -- Why a note is refused.
-use Rattle.std.specs.Prelude.{◌≡◌, ℕ, ◌-◌, ◌^◌, true, false, List, ◌++◌, codes}
-use Rattle.std.specs.Fmt.{decimal}
+use Rattle.std.specs.Prelude.{◌≡◌, ℕ, ◌-◌, ◌^◌, true, false}
+use Rattle.awari_faults.specs.Refusals.{Words, alone}
 use Rattle.awari_block.specs.Tally.{has_pit}
 use Rattle.awari_block.specs.Part.{Part, IsExpected, stored_at}
 use Rattle.awari_block.specs.declared.notes.Note.{Note}
@@ -14,15 +14,9 @@ number_of Doubled = 31
 number_of Far = 32
 number_of Memory = 33
 
-abbrev pub name_of : OwnerFault → List ℕ
-name_of Stranger = codes "Stranger"
-name_of Doubled = codes "Doubled"
-name_of Far = codes "Far"
-name_of Memory = codes "Memory"
-
--- what is printed of each: its number and its name
-abbrev pub fault_text : OwnerFault → List ℕ
-fault_text fault = decimal (number_of fault) ++ codes " " ++ name_of fault
+-- what is told of each
+abbrev pub reason_of : OwnerFault → Words
+reason_of fault = alone (number_of fault)
 
 -- The fault of a note. At most one is due, since each is tested only where those before it are not.
 abbrev pub IsFaultOf : Part → Note → OwnerFault → Type 0

@@ -1,9 +1,11 @@
 //! Why an owner refuses.
 
 ghost use Rattle.std.specs.Prelude.{◌≡◌};
-ghost use Rattle.awari_owner.specs.OwnerFault.{number_of};
+ghost use Rattle.awari_faults.specs.Parts.{reason_said};
+ghost use Rattle.awari_owner.specs.OwnerFault.{number_of, reason_of};
 ghost use Rattle.awari_owner.specs.declared.faults.OwnerFault.TheVariants.{Memory};
 
+use awari_faults::Reason;
 use std::alloc::AllocError;
 use std::fmt;
 use thiserror::Error;
@@ -35,22 +37,24 @@ impl OwnerFault {
             OwnerFault::Memory => 33,
         }
     }
+
+    /// What is told of it: its number.
+    pub fn reason(self) -> Reason
+        ensures { reason_said result ≡ reason_of self }
+    {
+        Reason::alone(self.number())
+    }
 }
 
 impl fmt::Display for OwnerFault {
     ghost use Rattle.std.specs.Prelude.{Some};
-    ghost use Rattle.awari_owner.specs.OwnerFault.{fault_text};
+    ghost use Rattle.awari_faults.specs.Refusals.{words_text};
+    ghost use Rattle.awari_owner.specs.OwnerFault.{reason_of};
 
-    ghost output = { λ fault. Some (fault_text fault) };
+    ghost output = { λ fault. Some (words_text (reason_of fault)) };
 
     fn fmt<W: fmt::Write>(&self, f: &mut fmt::Formatter<W>) -> fmt::Result {
-        let number = self.number();
-        match *self {
-            OwnerFault::Stranger => write!(f, "{number} Stranger"),
-            OwnerFault::Doubled => write!(f, "{number} Doubled"),
-            OwnerFault::Far => write!(f, "{number} Far"),
-            OwnerFault::Memory => write!(f, "{number} Memory"),
-        }
+        write!(f, "{}", self.reason())
     }
 }
 

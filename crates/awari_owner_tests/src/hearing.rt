@@ -6,7 +6,7 @@ use awari_build::{
     BuildFault, Pace, Watch, build_alone_with_progress, build_by_crew, build_level_with_progress,
 };
 use awari_crew::Crew;
-use awari_heard::{Progress, Told};
+use awari_heard::{Progress, Stage};
 use awari_phase::Open;
 use awari_table::{Level, Shelf};
 use std::alloc::Global;
@@ -46,11 +46,11 @@ impl Progress for Listener {
 
     ghost hears = { λ _ _ _. ⊤ };
 
-    fn hear(&mut self, told: Told) {
+    fn hear(&mut self, told: Stage) {
         self.keep(match told {
-            Told::Begun { level, boards } => Heard::Begun(level, boards),
-            Told::Settled { gain, boards } => Heard::Settled(gain, boards),
-            Told::Planned => Heard::Planned,
+            Stage::Begun { level, boards } => Heard::Begun(level, boards),
+            Stage::Settled { gain, boards } => Heard::Settled(gain, boards),
+            Stage::Planned => Heard::Planned,
         });
     }
 

@@ -4,7 +4,7 @@ ghost use Rattle.std.specs.Prelude.{⊤};
 
 use crate::expect::expect_equal;
 use crate::sweeps::opened_owners;
-use awari_heard::{Progress, Told};
+use awari_heard::{Progress, Stage};
 use awari_phase::{Gate, PhaseFault, gain_phase_with_progress};
 use std::sync::atomic::{AtomicU64, Ordering};
 use std::test::Fail;
@@ -78,7 +78,7 @@ impl Progress for TwoRounds<'_> {
 
     ghost hears = { λ _ _ _. ⊤ };
 
-    fn hear(&mut self, _told: Told) {
+    fn hear(&mut self, _told: Stage) {
         let _before = self.0.rounds.fetch_add(1, Ordering::SeqCst);
     }
 

@@ -6,7 +6,7 @@ ghost use Rattle.awari_table.specs.declared.TheConstants.{HIGHEST_LEVEL};
 use crate::counts::{COUNTS, expect_counts};
 use crate::shelves::one_level;
 use awari_segments::Halt;
-use awari_slices::{Draft, spread_slices};
+use awari_segments::{SlicedLevel, spread_slices};
 use awari_table::{Image, Shelf};
 use awari_verify::verify;
 use std::alloc::Global;
@@ -23,7 +23,7 @@ fn image_after(
 ) -> Result<Option<Image>, Halt>
     requires { length shelf.now ≤ HIGHEST_LEVEL }
 {
-    let draft = Draft::begin(alloc, shelf)?;
+    let draft = SlicedLevel::begin(alloc, shelf)?;
     let after = spread_slices(draft, slices, boards)?;
     if !after.is_settled() {
         return Ok(None);

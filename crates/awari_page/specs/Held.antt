@@ -12,7 +12,7 @@ use Rattle.awari_table.specs.Images.{table_of}
 use Rattle.awari_table.specs.Shelves.{Consistent}
 use Rattle.awari_table.specs.declared.images.Image.{Image}
 use Rattle.awari_theory.specs.Truth.{TellsTruth}
-use Rattle.awari_slices.specs.Drafts.{DraftView, IsSlice}
+use Rattle.awari_segments.specs.Slices.{SlicedView, IsSlice}
 use Rattle.awari_segments.specs.Each.{NoneAreFresh}
 use Rattle.awari_page.specs.declared.held.Held.TheInside.{Inside}
 use Rattle.awari_page.specs.declared.telling.PlainDraft.{PlainDraft}
@@ -20,15 +20,15 @@ use Rattle.awari_page.specs.declared.telling.PlainDraft.{PlainDraft}
 -- the levels, and the next one if it was begun
 pub record HeldView : Type 0 where
   pub stored : Stored
-  pub draft : Option DraftView
+  pub draft : Option SlicedView
 
 -- It is the next level of these, which are not all, and it heard what its boards that were spread say.
-pub record IsBegun (levels : List Image) (draft : DraftView) : Type 0 where
+pub record IsBegun (levels : List Image) (draft : SlicedView) : Type 0 where
   pub low : length levels ≤ 24
   pub level : draft.level ≡ length levels
   pub heard : AreHeard (table_of levels).value draft.parts
 
-abbrev pub IfBegun : List Image → Option DraftView → Type 0
+abbrev pub IfBegun : List Image → Option SlicedView → Type 0
 IfBegun levels None = Unit {0}
 IfBegun levels (Some draft) = IsBegun levels draft
 
@@ -36,7 +36,7 @@ abbrev pub IsHeld : Inside → Type 0
 IsHeld h = IfBegun h.stored.shelf h.draft
 
 -- all its gains are closed
-abbrev pub IsSettled : DraftView → Type 0
+abbrev pub IsSettled : SlicedView → Type 0
 IsSettled draft = (draft.gain ≡ 1) × NoneAreFresh draft.parts
 
 -- The image was made of settled parts of the next level of these.
@@ -63,27 +63,27 @@ pub record PutsOn (old new : Stored) (answer : ℕ) (room file : List ℕ) : Typ
   pub untouched : answer ≢ 0 → file ≡ room
 
 -- It says how far a level is.
-pub record TellsDraft (draft : DraftView) (told : PlainDraft) : Type 0 where
+pub record TellsDraft (draft : SlicedView) (told : PlainDraft) : Type 0 where
   pub boards : told.boards ≡ spread_in draft.parts
   pub gain : told.gain ≡ draft.gain
   pub settled : (told.settled ≡ true) ↔ IsSettled draft
 
 -- What comes of beginning the next level of these, by the answer. What was begun before stays if there are all levels, and else goes.
-pub record Begins (levels : List Image) (old new : Option DraftView) (answer : ℕ) : Type 0 where
+pub record Begins (levels : List Image) (old new : Option SlicedView) (answer : ℕ) : Type 0 where
   pub all : 24 < length levels → (answer ≡ 51) × (new ≡ old)
   pub begun : length levels ≤ 24 → ((answer ≡ 0) × IsSomeAnd new (IsBegun levels)) ⊎ ((answer ≡ 53) × (new ≡ None))
 
 -- What comes of a slice: 59 if no level was begun, and 53 if memory ran out, and then the level is lost.
-pub record Spreads (old new : Option DraftView) (told : PlainDraft) (answer : ℕ) : Type 0 where
+pub record Spreads (old new : Option SlicedView) (told : PlainDraft) (answer : ℕ) : Type 0 where
   pub none : old ≡ None → (answer ≡ 59) × (new ≡ None)
-  pub begun : (draft : DraftView) → old ≡ Some draft
+  pub begun : (draft : SlicedView) → old ≡ Some draft
       → ((answer ≡ 0) × IsSomeAnd new (λ after. IsSlice draft after × TellsDraft after told)) ⊎ ((answer ≡ 53) × (new ≡ None))
 
 -- What comes of finishing a level that is to have a file of this many bytes: 59 if none was begun or not all its gains are closed, 70
 -- if its file has another length, and 53 if memory ran out. It is begun no more after 0 and 53.
-pub record Finishes (levels : List Image) (old new : Option DraftView) (room answer : ℕ) : Type 0 where
+pub record Finishes (levels : List Image) (old new : Option SlicedView) (room answer : ℕ) : Type 0 where
   pub none : old ≡ None → (answer ≡ 59) × (new ≡ None)
-  pub unsettled : (draft : DraftView) → old ≡ Some draft → (IsSettled draft → ⊥) → (answer ≡ 59) × (new ≡ old)
-  pub unfit : (draft : DraftView) → old ≡ Some draft → IsSettled draft → room ≢ file_len (length levels) → (answer ≡ 70) × (new ≡ old)
-  pub settled : (draft : DraftView) → old ≡ Some draft → IsSettled draft → room ≡ file_len (length levels)
+  pub unsettled : (draft : SlicedView) → old ≡ Some draft → (IsSettled draft → ⊥) → (answer ≡ 59) × (new ≡ old)
+  pub unfit : (draft : SlicedView) → old ≡ Some draft → IsSettled draft → room ≢ file_len (length levels) → (answer ≡ 70) × (new ≡ old)
+  pub settled : (draft : SlicedView) → old ≡ Some draft → IsSettled draft → room ≡ file_len (length levels)
       → ((answer ≡ 0) ⊎ (answer ≡ 53)) × (new ≡ None)

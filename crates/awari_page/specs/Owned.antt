@@ -4,7 +4,7 @@ use base.Fml.{Fml}
 use denote.RawPtr.{Ptr}
 use Rattle.awari_plain.specs.Owned.{owned as owned_at}
 use Rattle.awari_table.specs.declared.images.Image.{Image}
-use Rattle.awari_slices.specs.Drafts.{DraftView}
+use Rattle.awari_segments.specs.Slices.{SlicedView}
 use Rattle.awari_page.specs.Held.{HeldView}
 use Rattle.awari_page.specs.contracts.held.Held.{the_row}
 
@@ -28,6 +28,6 @@ digest_in true held = held.stored.digest
 digest_in false held = replicate 32 0
 
 -- the level that was begun
-abbrev pub draft_in : Bool → HeldView → Option DraftView
+abbrev pub draft_in : Bool → HeldView → Option SlicedView
 draft_in true held = held.draft
 draft_in false held = None

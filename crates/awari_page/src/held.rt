@@ -15,7 +15,7 @@ use awari_file::file_len;
 use awari_folder::{FolderFault, Stored};
 use awari_plain::NOT_YET;
 use awari_plan::kept_levels_are_right;
-use awari_slices::Draft;
+use awari_segments::SlicedLevel;
 use awari_table::{HIGHEST_LEVEL, Image, Level, Shelf};
 use std::alloc::Global;
 use std::marker::Model;
@@ -31,7 +31,7 @@ pub(crate) const NO_MEMORY: u8 = 53;
 #[derive(Drop)]
 pub struct Held {
     stored: Stored,
-    draft: Option<Draft>,
+    draft: Option<SlicedLevel>,
 }
 
 impl Model for Held {
@@ -101,7 +101,7 @@ impl Held {
             return ALL_LEVELS;
         }
         self.draft = None;
-        match Draft::begin(alloc, &self.stored.shelf) {
+        match SlicedLevel::begin(alloc, &self.stored.shelf) {
             Ok(draft) => {
                 self.draft = Some(draft);
                 0

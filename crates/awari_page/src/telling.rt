@@ -4,7 +4,7 @@ ghost use Rattle.std.specs.Prelude.{◌≡◌, ◌<◌, length};
 ghost use Rattle.awari_page.specs.Held.{TellsDraft};
 ghost use Rattle.awari_page.specs.Told.{TellsCounts};
 
-use awari_slices::Draft;
+use awari_segments::SlicedLevel;
 use awari_table::Shelf;
 
 /// How far the next level is.
@@ -53,7 +53,7 @@ pub(crate) fn told_counts(shelf: &Shelf, level: u8) -> PlainCounts
 }
 
 /// How far the level is.
-pub(crate) fn told_draft(draft: &Draft) -> PlainDraft
+pub(crate) fn told_draft(draft: &SlicedLevel) -> PlainDraft
     ensures { TellsDraft draft.now result }
 {
     PlainDraft {

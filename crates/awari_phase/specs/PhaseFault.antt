@@ -1,7 +1,7 @@
--- Why a round is refused: the faults' numbers, what is printed of them, and which is told.
-use Rattle.std.specs.Prelude.{◌≡◌, ℕ, ℤ, ◌<◌, ◌≤◌, List, ◌++◌, All, Some, None, codes, slice_index_or}
-use Rattle.std.specs.Fmt.{decimal}
-use Rattle.awari_owner.specs.OwnerFault.{fault_text as owner_fault_text}
+-- Why a round is refused: what is told of the faults, and which is told.
+use Rattle.std.specs.Prelude.{◌≡◌, ℕ, ℤ, ◌<◌, ◌≤◌, List, [], ◌∷◌, All, Some, None, codes, slice_index_or}
+use Rattle.awari_faults.specs.Refusals.{Words, alone, with_number}
+use Rattle.awari_owner.specs.OwnerFault.{reason_of as owner_reason_of}
 use Rattle.awari_owner.specs.declared.faults.OwnerFault.{OwnerFault}
 use Rattle.awari_owner.specs.declared.faults.OwnerFault.TheVariants as owner_fault
 use Rattle.awari_table.specs.declared.TheConstants.{HIGHEST_LEVEL}
@@ -11,19 +11,23 @@ use Rattle.awari_phase.specs.declared.faults.PhaseFault.TheVariants.{NotStarted,
 use Rattle.awari_phase.specs.Owners.{AllGrown, AreTogether}
 use Rattle.awari_phase.specs.Stops.{HaveWorked}
 
--- the number of each fault
-abbrev pub number_of : PhaseFault → ℕ
-number_of NotStarted = 40
-number_of Memory = 41
-number_of (BadNote owner fault) = 42
-number_of Stopped = 43
+-- what is told of each but for the fault of an owner: its number, and the owner
+abbrev pub reason_of : PhaseFault → Words
+reason_of NotStarted = alone 40
+reason_of Memory = alone 41
+reason_of (BadNote owner fault) = with_number 42 (codes "owner") owner
+reason_of Stopped = alone 43
 
--- what is printed of each: its number, its name, its owner, and the fault inside it
-abbrev pub fault_text : PhaseFault → List ℕ
-fault_text NotStarted = codes "40 NotStarted"
-fault_text Memory = codes "41 Memory"
-fault_text (BadNote owner fault) = codes "42 BadNote owner " ++ decimal owner ++ codes ": " ++ owner_fault_text fault
-fault_text Stopped = codes "43 Stopped"
+abbrev pub number_of : PhaseFault → ℕ
+number_of fault = (reason_of fault).number
+
+-- what is told of the fault of an owner, and of both
+abbrev pub inside_of : PhaseFault → List Words
+inside_of (BadNote owner fault) = owner_reason_of fault ∷ []
+inside_of fault = []
+
+abbrev pub refusal_of : PhaseFault → List Words
+refusal_of fault = reason_of fault ∷ inside_of fault
 
 -- how a round tells the fault of an owner
 abbrev pub fault_of : ℕ → OwnerFault → PhaseFault

@@ -15,7 +15,7 @@ use crate::owners::Owner;
 use crate::rounding::round;
 use crate::settling::settle_owners;
 use awari_block::nearer;
-use awari_heard::{Progress, Silent, Told};
+use awari_heard::{Progress, Silent, Stage};
 use std::sync::Wait;
 use std::thread::Threads;
 
@@ -92,10 +92,10 @@ fn is_more(owners: &mut [Owner]) -> bool
 /// Tells which gain is open, and how many boards are settled, of all owners together.
 fn tell<P: Progress>(progress: &mut P, owners: &[Owner])
     requires { IsGrid (all_ends owners.now) }
-    ensures { (first : AnOwner) → slice_get owners.now 0 ≡ Some first → P.hears progress.old (Told.Settled first.part.gain (spread_in (parts_of owners.now))) progress.new }
+    ensures { (first : AnOwner) → slice_get owners.now 0 ≡ Some first → P.hears progress.old (Stage.Settled first.part.gain (spread_in (parts_of owners.now))) progress.new }
 {
     if let Some(owner) = owners.first() {
-        progress.hear(Told::Settled {
+        progress.hear(Stage::Settled {
             gain: usize::from(owner.part.gain()),
             boards: settled_boards(owners),
         });

@@ -1,21 +1,16 @@
--- Why there is no line, the numbers of the faults, and what is printed of them.
-use Rattle.std.specs.Prelude.{◌≡◌, ℕ, ◌<◌, ◌≤◌, List, ◌++◌, codes}
-use Rattle.std.specs.Fmt.{decimal}
+-- Why there is no line, the numbers of the faults, and what is told of them.
+use Rattle.std.specs.Prelude.{◌≡◌, ℕ, ◌<◌, ◌≤◌, codes}
+use Rattle.awari_faults.specs.Refusals.{Words, alone, with_number}
 use Rattle.awari_play.specs.declared.lines.LineFault.{LineFault}
 use Rattle.awari_play.specs.declared.lines.LineFault.TheVariants.{NotYet, Memory}
 
+-- what is told of each
+abbrev pub reason_of : LineFault → Words
+reason_of (NotYet levels) = with_number 56 (codes "levels") levels
+reason_of Memory = alone 57
+
 abbrev pub number_of : LineFault → ℕ
-number_of (NotYet levels) = 56
-number_of Memory = 57
-
--- its name, and each of its fields with its name
-abbrev pub name_and_fields : LineFault → List ℕ
-name_and_fields (NotYet levels) = codes "NotYet levels " ++ decimal levels
-name_and_fields Memory = codes "Memory"
-
--- what is printed of each: its number, its name and its fields
-abbrev pub fault_text : LineFault → List ℕ
-fault_text fault = decimal (number_of fault) ++ codes " " ++ name_and_fields fault
+number_of fault = (reason_of fault).number
 
 -- The fault is the one for a board with this many stones, on a shelf with this many levels: want of memory only where the shelf has the
 -- board's level.

@@ -2,6 +2,7 @@
 
 ghost use Rattle.std.specs.Prelude.{◌≡◌, ℕ, ◌<◌, ◌≤◌, ◌+◌, ◌↔◌, [], ◌∷◌, ◌++◌, List, IfOk, IfErr, Err, Some, length, sum, take};
 ghost use Rattle.awari_board.specs.Rules.{IsBoard, IsLegal};
+ghost use Rattle.awari_faults.specs.Parts.{reason_said};
 ghost use Rattle.awari_game.specs.Plays.{IsPlay, Standing, start};
 ghost use Rattle.awari_game.specs.Shown.{Shows};
 ghost use Rattle.awari_table.specs.Images.{entry_of, greatest_limit, table_of};
@@ -12,6 +13,7 @@ ghost use Rattle.awari_play.specs.Unplayed.{IsUnplayed};
 
 use crate::lookups::{Table, Unplayed};
 use awari_board::Board;
+use awari_faults::Reason;
 use awari_game::Game;
 use awari_table::Shelf;
 use std::alloc::Global;
@@ -38,31 +40,35 @@ pub enum LineFault {
 }
 
 impl LineFault {
-    ghost use Rattle.awari_play.specs.LineFault.{number_of};
+    ghost use Rattle.awari_play.specs.LineFault.{number_of, reason_of};
 
     /// The number of this refusal, 56 or 57.
     pub fn number(self) -> u8
         ensures { result ≡ number_of self }
     {
+        self.reason().number
+    }
+
+    /// What is told of it: its number, and how many levels there are.
+    pub fn reason(self) -> Reason
+        ensures { reason_said result ≡ reason_of self }
+    {
         match self {
-            LineFault::NotYet { .. } => 56,
-            LineFault::Memory => 57,
+            LineFault::NotYet { levels } => Reason::with_number(56, "levels", u128::from(levels)),
+            LineFault::Memory => Reason::alone(57),
         }
     }
 }
 
 impl fmt::Display for LineFault {
     ghost use Rattle.std.specs.Prelude.{Some};
-    ghost use Rattle.awari_play.specs.LineFault.{fault_text};
+    ghost use Rattle.awari_faults.specs.Refusals.{words_text};
+    ghost use Rattle.awari_play.specs.LineFault.{reason_of};
 
-    ghost output = { λ fault. Some (fault_text fault) };
+    ghost output = { λ fault. Some (words_text (reason_of fault)) };
 
     fn fmt<W: fmt::Write>(&self, f: &mut fmt::Formatter<W>) -> fmt::Result {
-        let number = self.number();
-        match *self {
-            LineFault::NotYet { levels } => write!(f, "{number} NotYet levels {levels}"),
-            LineFault::Memory => write!(f, "{number} Memory"),
-        }
+        write!(f, "{}", self.reason())
     }
 }
 

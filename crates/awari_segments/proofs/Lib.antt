@@ -24,3 +24,4 @@ pub mod Giving
 pub mod NearestList
 pub mod LoneTurns
 pub mod Passing
+pub mod Going

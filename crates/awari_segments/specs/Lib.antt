@@ -6,3 +6,4 @@ pub mod Lists
 pub mod ByDistance
 pub mod Taken
 pub mod Tellings
+pub mod Slices

@@ -6,8 +6,8 @@
 //! looks at each note before it hears it, so nothing has to be known of who tells. `specs/Tellings.antt`
 //! says what is told and heard.
 //!
-//! A crew of `awari_crew` deals the segments out to its members. A draft of `awari_slices` has all of them.
-//! The calls need no handle. They take memory for the segments, nine bytes a board, for fresh boards and
+//! A crew of `awari_crew` deals the segments out to its members. A [`SlicedLevel`] has all of them, and takes turns
+//! some boards at a time. The calls need no handle. They take memory for the segments, nine bytes a board, for fresh boards and
 //! for notes.
 //!
 //! Level 0, in `crates/awari_owner_tests/src/examples.rt`:
@@ -32,6 +32,7 @@ mod openings;
 mod rows;
 mod scanning;
 mod segments;
+mod sliced;
 mod taking;
 mod turns;
 
@@ -43,4 +44,5 @@ pub use openings::{open_gain, open_wave};
 pub use rows::Row;
 pub use scanning::{numbered_segment, scanned_segments, segments_in};
 pub use segments::{Segment, closed_all, log_of};
+pub use sliced::{SlicedLevel, spread_slices};
 pub use turns::{Turn, take_notes};

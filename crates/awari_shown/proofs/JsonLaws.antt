@@ -1,6 +1,7 @@
 -- Objects, put together from their parts.
 use Rattle.std.proofs.Common.{◌≡◌, ℕ, List, [], ◌∷◌, ◌++◌, Option, map, sym, ap, ◌∙◌, append-nil, append_assoc}
 use Rattle.std.specs.Prelude.{codes}
+use Rattle.awari_faults.specs.Meanings.{name_of}
 use Rattle.awari_members.proofs.MemberLaws.{json-line, marked-append}
 use Rattle.awari_members.specs.Json.{commas, json_string}
 use Rattle.awari_members.specs.Members.{Named, board, line_text, marked, number, pit, signed, text, truth}
@@ -59,12 +60,12 @@ move_json-parts plan m =
     is_plan : List Named
     is_plan = truth (codes "plan") (is_planned plan m.worth.pit) ∷ []
 
-pub refusal_json-parts : (request : List ℕ) (refused : ℕ) (name : List ℕ)
-    → codes "{\"request\":" ++ (json_string request ++ (marked Json (codes ",") (number (codes "refused") refused ∷ text (codes "name") name ∷ []) ++ codes "}\n")) ≡ refusal_json request refused name
+pub refusal_json-parts : (request : List ℕ) (refused : ℕ)
+    → codes "{\"request\":" ++ (json_string request ++ (marked Json (codes ",") (number (codes "refused") refused ∷ text (codes "name") (name_of refused) ∷ []) ++ codes "}\n")) ≡ refusal_json request refused
 unfolding refusal_json
-refusal_json-parts request refused name =
+refusal_json-parts request refused =
     ap (λ t. codes "{\"request\":" ++ t) (sym (append_assoc (json_string request) (marked Json (codes ",") later) (codes "}\n")))
     ∙ closed-line (request_member request) later
   where
     later : List Named
-    later = number (codes "refused") refused ∷ text (codes "name") name ∷ []
+    later = number (codes "refused") refused ∷ text (codes "name") (name_of refused) ∷ []

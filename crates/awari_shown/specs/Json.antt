@@ -1,5 +1,6 @@
 -- Answers as JSON, each an object of members on a line.
 use Rattle.std.specs.Prelude.{ℕ, List, [], ◌∷◌, ◌++◌, map, codes, Option}
+use Rattle.awari_faults.specs.Meanings.{name_of}
 use Rattle.awari_members.specs.Json.{array, json_string}
 use Rattle.awari_members.specs.Members.{Named, board, line_text, number, pit, signed, text, truth}
 use Rattle.awari_shown.specs.Moves.{is_planned, worth_members}
@@ -30,5 +31,5 @@ abbrev pub request_member : List ℕ → Named
 request_member request = record { name = codes "request"; value = λ form. json_string request }
 
 -- a request that was refused, with the number and the name of the refusal, and a line feed
-unfoldable pub refusal_json : List ℕ → ℕ → List ℕ → List ℕ
-refusal_json request refused name = line_text Json (request_member request ∷ number (codes "refused") refused ∷ text (codes "name") name ∷ []) ++ 10 ∷ []
+unfoldable pub refusal_json : List ℕ → ℕ → List ℕ
+refusal_json request refused = line_text Json (request_member request ∷ number (codes "refused") refused ∷ text (codes "name") (name_of refused) ∷ []) ++ 10 ∷ []

@@ -9,6 +9,7 @@ ghost use Rattle.awari_members.specs.declared.forms.Form.TheVariants as form;
 
 use crate::moves::{is_planned, push_worth};
 use awari_board::Board;
+use awari_faults::name_of;
 use awari_members::{
     ANSWER_ROOM, AnswerText, Form, Member, push_bytes, push_comma, push_members, push_string,
 };
@@ -38,18 +39,17 @@ pub fn weighed_json(board: &Board, weighed: &Weighed) -> AnswerText
     text
 }
 
-/// The line of a request that was refused: its bytes, and the number and the name of the refusal.
-/// Conditions: the request has at most 200 bytes, and the name at most 20. It takes no memory.
-pub fn refusal_json(request: &[u8], number: u8, name: &str) -> AnswerText
-    requires request { length request.now ≤ 200 }
-    requires name { length name.now ≤ 20 }
-    ensures { result.items ≡ refusal_json request.now number name.now }
+/// The line of a request that was refused: its bytes, and the number of the refusal with its name. Condition: the
+/// request has at most 200 bytes. It takes no memory.
+pub fn refusal_json(request: &[u8], number: u8) -> AnswerText
+    requires { length request.now ≤ 200 }
+    ensures { result.items ≡ refusal_json request.now number }
 {
     let mut text = AnswerText::new();
     push_bytes(&mut text, b"{\"request\":");
     push_string(&mut text, request);
+    let name = Member::text("name", name_of(number));
     let number = Member::number("refused", u64::from(number));
-    let name = Member::text("name", name);
     push_members(&mut text, Form::Json, b",", &[number, name]);
     push_bytes(&mut text, b"}\n");
     text

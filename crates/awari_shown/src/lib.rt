@@ -16,6 +16,8 @@
 
 mod json;
 mod moves;
+mod refusals;
 
 pub use json::{entry_json, refusal_json, weighed_json};
 pub use moves::weighed_text;
+pub use refusals::push_reason;

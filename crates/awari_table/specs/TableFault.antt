@@ -1,8 +1,8 @@
 -- Where a text has a fault. All of it is said by how images are spelled. A spelled line ends in its only line feed, so a first
 -- line that is not of a form is one that no spelling of that form begins.
 use Rattle.std.specs.Prelude.{◌≡◌, ◌≢◌, ◌⊎◌, ℕ, ◌+◌, ◌<◌, ◌≤◌, ◌^◌, Bool, true, false, List, ◌++◌, length, ◌==◌, codes}
-use Rattle.std.specs.Fmt.{decimal}
 use Rattle.std.specs.List.{list_any, flat_map, AllByRecursion}
+use Rattle.awari_faults.specs.Refusals.{Words, alone, with_number}
 use Rattle.awari_rank.specs.Rank.{size_of}
 use Rattle.awari_table.specs.declared.TheConstants.{HIGHEST_LEVEL}
 use Rattle.awari_table.specs.declared.images.Entry.{Entry}
@@ -10,24 +10,16 @@ use Rattle.awari_table.specs.declared.faults.TableFault.{TableFault}
 use Rattle.awari_table.specs.declared.faults.TableFault.TheVariants.{Line, Order, High, Short, Memory}
 use Rattle.awari_table.specs.Spelling.{entry_line, header_line, IsEntry}
 
+-- what is told of each
+abbrev pub reason_of : TableFault → Words
+reason_of (Line line) = with_number 10 (codes "line") line
+reason_of (Order line) = with_number 11 (codes "line") line
+reason_of (High line) = with_number 12 (codes "line") line
+reason_of Short = alone 13
+reason_of Memory = alone 15
+
 abbrev pub number_of : TableFault → ℕ
-number_of (Line line) = 10
-number_of (Order line) = 11
-number_of (High line) = 12
-number_of Short = 13
-number_of Memory = 15
-
--- its name, and each of its fields with its name
-abbrev pub name_and_fields : TableFault → List ℕ
-name_and_fields (Line line) = codes "Line line " ++ decimal line
-name_and_fields (Order line) = codes "Order line " ++ decimal line
-name_and_fields (High line) = codes "High line " ++ decimal line
-name_and_fields Short = codes "Short"
-name_and_fields Memory = codes "Memory"
-
--- what is printed of each: its number, its name and its fields
-abbrev pub fault_text : TableFault → List ℕ
-fault_text fault = decimal (number_of fault) ++ codes " " ++ name_and_fields fault
+number_of fault = (reason_of fault).number
 
 abbrev pub has_line_feed : List ℕ → Bool
 has_line_feed bytes = list_any (λ b. b == 10) bytes
@@ -60,14 +52,14 @@ IsDueAt level line bytes Short =
     (has_line_feed bytes ≡ false)
     ⊎ ((limit : ℕ) × (entries : List Entry) × (rest : List ℕ) × IsInside level bytes limit entries rest × (has_line_feed rest ≡ false))
 -- the line has its line feed, and is not of the form that is due: no header, or no entry
-IsDueAt level line bytes (Line number) =
-    ((number ≡ line) × (has_line_feed bytes ≡ true) × IsNoHeader bytes)
+IsDueAt level line bytes (Line n) =
+    ((n ≡ line) × (has_line_feed bytes ≡ true) × IsNoHeader bytes)
     ⊎ ((limit : ℕ) × (entries : List Entry) × (rest : List ℕ) × IsInside level bytes limit entries rest
-    × (number ≡ line + 1 + length entries) × (has_line_feed rest ≡ true) × IsNoEntry rest)
+    × (n ≡ line + 1 + length entries) × (has_line_feed rest ≡ true) × IsNoEntry rest)
 -- a header of a level above the highest
-IsDueAt level line bytes (High number) = (number ≡ line) × (other limit : ℕ) × (rest : List ℕ) × Opens bytes other limit rest × (HIGHEST_LEVEL < other)
+IsDueAt level line bytes (High n) = (n ≡ line) × (other limit : ℕ) × (rest : List ℕ) × Opens bytes other limit rest × (HIGHEST_LEVEL < other)
 -- a header of a level that is not the one due
-IsDueAt level line bytes (Order number) =
-    (number ≡ line) × (other limit : ℕ) × (rest : List ℕ) × Opens bytes other limit rest × (other ≤ HIGHEST_LEVEL) × (other ≢ level)
+IsDueAt level line bytes (Order n) =
+    (n ≡ line) × (other limit : ℕ) × (rest : List ℕ) × Opens bytes other limit rest × (other ≤ HIGHEST_LEVEL) × (other ≢ level)
 -- the level's header, for whose entries room is then taken
 IsDueAt level line bytes Memory = (limit : ℕ) × (rest : List ℕ) × Opens bytes level limit rest × (level ≤ HIGHEST_LEVEL)

@@ -1,8 +1,10 @@
 //! Why the text of a table is refused.
 
 ghost use Rattle.std.specs.Prelude.{◌≡◌};
+ghost use Rattle.awari_faults.specs.Parts.{reason_said};
 ghost use Rattle.awari_table.specs.declared.faults.TableFault.TheVariants.{Memory};
 
+use awari_faults::Reason;
 use std::alloc::AllocError;
 use std::fmt;
 use thiserror::Error;
@@ -25,37 +27,38 @@ pub enum TableFault {
 }
 
 impl TableFault {
-    ghost use Rattle.awari_table.specs.TableFault.{number_of};
+    ghost use Rattle.awari_table.specs.TableFault.{number_of, reason_of};
 
     /// The number of this refusal, 10 to 13, or 15.
     pub fn number(self) -> u8
         ensures { result ≡ number_of self }
     {
+        self.reason().number
+    }
+
+    /// What is told of it: its number, and the line.
+    pub fn reason(self) -> Reason
+        ensures { reason_said result ≡ reason_of self }
+    {
         match self {
-            TableFault::Line { .. } => 10,
-            TableFault::Order { .. } => 11,
-            TableFault::High { .. } => 12,
-            TableFault::Short => 13,
-            TableFault::Memory => 15,
+            TableFault::Line { line } => Reason::with_number(10, "line", u128::from(line)),
+            TableFault::Order { line } => Reason::with_number(11, "line", u128::from(line)),
+            TableFault::High { line } => Reason::with_number(12, "line", u128::from(line)),
+            TableFault::Short => Reason::alone(13),
+            TableFault::Memory => Reason::alone(15),
         }
     }
 }
 
 impl fmt::Display for TableFault {
     ghost use Rattle.std.specs.Prelude.{Some};
-    ghost use Rattle.awari_table.specs.TableFault.{fault_text};
+    ghost use Rattle.awari_faults.specs.Refusals.{words_text};
+    ghost use Rattle.awari_table.specs.TableFault.{reason_of};
 
-    ghost output = { λ fault. Some (fault_text fault) };
+    ghost output = { λ fault. Some (words_text (reason_of fault)) };
 
     fn fmt<W: fmt::Write>(&self, f: &mut fmt::Formatter<W>) -> fmt::Result {
-        let number = self.number();
-        match *self {
-            TableFault::Line { line } => write!(f, "{number} Line line {line}"),
-            TableFault::Order { line } => write!(f, "{number} Order line {line}"),
-            TableFault::High { line } => write!(f, "{number} High line {line}"),
-            TableFault::Short => write!(f, "{number} Short"),
-            TableFault::Memory => write!(f, "{number} Memory"),
-        }
+        write!(f, "{}", self.reason())
     }
 }
 

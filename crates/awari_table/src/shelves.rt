@@ -2,6 +2,7 @@
 
 ghost use Rattle.std.specs.Prelude.{◌≡◌, ◌<◌, ◌+◌, ◌↔◌, [], ◌∷◌, ◌++◌, Some, IsOk, IfOk, IfErr, length, slice_get, sum};
 ghost use Rattle.std.specs.Arc.{arc_value};
+ghost use Rattle.awari_faults.specs.Parts.{reason_said};
 ghost use Rattle.awari_table.specs.Images.{entry_of, greatest_limit};
 ghost use Rattle.awari_table.specs.Shelves.{Consistent, IsShelf};
 
@@ -10,6 +11,7 @@ use crate::images::Entry;
 use crate::levels::Level;
 use arrayvec::ArrayVec;
 use awari_board::Board;
+use awari_faults::Reason;
 use awari_packed::PackedBoard;
 use awari_rank::rank;
 use std::alloc::{AllocError, Global};
@@ -31,22 +33,32 @@ pub struct NotYet {
 }
 
 impl NotYet {
+    ghost use Rattle.awari_table.specs.NotYet.{reason_of};
+
     /// The number of this refusal, 59.
     pub fn number(self) -> u8
         ensures { result ≡ 59 }
     {
         59
     }
+
+    /// What is told of it: its number, and how many levels there are.
+    pub fn reason(self) -> Reason
+        ensures { reason_said result ≡ reason_of self }
+    {
+        Reason::with_number(self.number(), "levels", u128::from(self.levels))
+    }
 }
 
 impl fmt::Display for NotYet {
     ghost use Rattle.std.specs.Prelude.{Some};
-    ghost use Rattle.awari_table.specs.NotYet.{fault_text};
+    ghost use Rattle.awari_faults.specs.Refusals.{words_text};
+    ghost use Rattle.awari_table.specs.NotYet.{reason_of};
 
-    ghost output = { λ fault. Some (fault_text fault) };
+    ghost output = { λ fault. Some (words_text (reason_of fault)) };
 
     fn fmt<W: fmt::Write>(&self, f: &mut fmt::Formatter<W>) -> fmt::Result {
-        write!(f, "59 NotYet levels {}", self.levels)
+        write!(f, "{}", self.reason())
     }
 }
 

@@ -4,7 +4,7 @@ use Rattle.awari_desk.specs.Answering.{Answering}
 use Rattle.awari_folder.specs.Contents.{Same}
 use Rattle.awari_folder.specs.State.{State}
 use Rattle.awari_unverified.specs.Said.{IsEntrySaid, AreMovesSaid}
-use Rattle.awari_unverified.specs.Unsaid.{line_of, name_of, number_of}
+use Rattle.awari_unverified.specs.Unsaid.{line_of, number_of}
 use Rattle.awari_unverified.specs.declared.files.Files.{Files}
 use Rattle.awari_unverified.specs.declared.unsaid.Unsaid.{Unsaid}
 
@@ -26,5 +26,4 @@ by_lent state = record {
   moves = λ replies old new board said. Keeps state old new × AreMovesSaid replies (stands_in state old) old.levels new.levels board said;
   line = line_of;
   number = number_of;
-  name = name_of;
 }

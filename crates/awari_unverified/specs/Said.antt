@@ -13,7 +13,7 @@ use Rattle.awari_table.specs.Images.{entry_of}
 use Rattle.awari_table.specs.declared.TheConstants.{HIGHEST_LEVEL}
 use Rattle.awari_table.specs.declared.images.Entry.{Entry}
 use Rattle.awari_table.specs.declared.images.Image.{Image}
-use Rattle.awari_unverified.specs.Unsaid.{line_of, name_of, number_of}
+use Rattle.awari_unverified.specs.Unsaid.{line_of, number_of}
 use Rattle.awari_unverified.specs.declared.unsaid.Unsaid.{Unsaid}
 use Rattle.awari_unverified.specs.declared.unsaid.Unsaid.TheVariants.{NotYet, Folder}
 
@@ -33,7 +33,7 @@ AreMovesSaid replies stands levels then board (Err (Folder fault)) = (then ≡ l
 -- how the files of this many levels answer a service
 abbrev pub by_files : (ℕ → Option (Option (List ℕ))) → Answering ℕ Unsaid
 by_files stands =
-    record { seen = λ levels. levels; entry = IsEntrySaid stands; moves = λ replies. AreMovesSaid replies stands; line = line_of; number = number_of; name = name_of }
+    record { seen = λ levels. levels; entry = IsEntrySaid stands; moves = λ replies. AreMovesSaid replies stands; line = line_of; number = number_of }
 
 -- Where the input is known, and what the writer holds: what was written is the output for it, by the files of this many levels.
 abbrev pub IsServedSaid : (ℕ → Option (Option (List ℕ))) → ℕ → Option (List ℕ) → Option (List ℕ) → Option (List ℕ) → Type 0

@@ -1,20 +1,17 @@
 -- Why files do not say what is asked of a board, and how that is told.
 use Rattle.std.specs.Prelude.{ℕ, List, [], ◌∷◌, ◌++◌, codes}
 use Rattle.std.specs.Fmt.{decimal}
-use Rattle.awari_folder.specs.FolderFault.{fault_text, name_of as folder_name_of, number_of as folder_number_of}
+use Rattle.awari_faults.specs.Refusals.{refusal_text}
+use Rattle.awari_folder.specs.FolderFault.{refusal_of, number_of as folder_number_of}
 use Rattle.awari_unverified.specs.declared.unsaid.Unsaid.{Unsaid}
 use Rattle.awari_unverified.specs.declared.unsaid.Unsaid.TheVariants.{NotYet, Folder}
 
 -- the line by which a service tells of it
 abbrev pub line_of : Unsaid → List ℕ
 line_of (NotYet levels) = codes "not yet " ++ decimal levels ++ 10 ∷ []
-line_of (Folder fault) = codes "refused " ++ fault_text fault ++ 10 ∷ []
+line_of (Folder fault) = codes "refused " ++ refusal_text (refusal_of fault) ++ 10 ∷ []
 
--- its number, and its name
+-- its number
 abbrev pub number_of : Unsaid → ℕ
 number_of (NotYet levels) = 74
 number_of (Folder fault) = folder_number_of fault
-
-abbrev pub name_of : Unsaid → List ℕ
-name_of (NotYet levels) = codes "NotYet"
-name_of (Folder fault) = folder_name_of fault

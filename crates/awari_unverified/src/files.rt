@@ -63,11 +63,4 @@ impl<F: Folder> Oracle for Files<'_, F> {
             Unsaid::Folder { fault } => fault.number(),
         }
     }
-
-    fn name_of(fault: &Unsaid) -> &'static str {
-        match fault {
-            Unsaid::NotYet { .. } => "NotYet",
-            Unsaid::Folder { fault } => fault.name(),
-        }
-    }
 }

@@ -35,7 +35,7 @@ pub fn run_serve_unverified<F: Folder, R: Read, W: Replies, E>(
 {
     let opened = match open_levels(folder, HIGHEST_LEVEL) {
         Ok(opened) => opened,
-        Err(fault) => return refuse(&mut streams.output, fault),
+        Err(fault) => return refuse(&mut streams.output, fault.refusal()),
     };
     let served = serve_lines(
         folder,
@@ -46,7 +46,7 @@ pub fn run_serve_unverified<F: Folder, R: Read, W: Replies, E>(
     match served {
         Ok(()) => 0,
         Err(ServeFault::Write) => 1,
-        Err(fault) => refuse(&mut streams.output, fault),
+        Err(fault) => refuse(&mut streams.output, fault.refusal()),
     }
 }
 

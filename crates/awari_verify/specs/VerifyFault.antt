@@ -1,6 +1,6 @@
 -- Why an image is not the next level of a shelf.
 use Rattle.std.specs.Prelude.{◌≡◌, ◌≢◌, ◌⊎◌, ℕ, ◌≤◌, List, [], ◌∷◌, ◌++◌, length, codes, Option, Some, None, MatchOption}
-use Rattle.std.specs.Fmt.{decimal}
+use Rattle.awari_faults.specs.Refusals.{Words, alone, number, word}
 use Rattle.awari_rank.specs.Rank.{size_of}
 use Rattle.awari_table.specs.declared.images.Image.{Image}
 use Rattle.awari_table.specs.declared.TheConstants.{HIGHEST_LEVEL}
@@ -14,22 +14,15 @@ use Rattle.awari_verify.specs.declared.search.Refusal.{Refusal}
 use Rattle.awari_verify.specs.declared.verdicts.VerifyFault.{VerifyFault}
 use Rattle.awari_verify.specs.declared.verdicts.VerifyFault.TheVariants.{WrongLevel, WrongSize, Refused, Memory}
 
+-- what is told of each
+abbrev pub reason_of : VerifyFault → Words
+reason_of WrongLevel = alone 20
+reason_of WrongSize = alone 21
+reason_of (Refused rank rule) = record { number = 22; fields = number (codes "rank") rank ∷ word (codes "rule") (rule_name rule) ∷ [] }
+reason_of Memory = alone 23
+
 abbrev pub number_of : VerifyFault → ℕ
-number_of WrongLevel = 20
-number_of WrongSize = 21
-number_of (Refused rank rule) = 22
-number_of Memory = 23
-
--- its name, and each of its fields with its name
-abbrev pub name_and_fields : VerifyFault → List ℕ
-name_and_fields WrongLevel = codes "WrongLevel"
-name_and_fields WrongSize = codes "WrongSize"
-name_and_fields (Refused rank rule) = codes "Refused rank " ++ decimal rank ++ codes " rule " ++ rule_name rule
-name_and_fields Memory = codes "Memory"
-
--- what is printed of each: its number, its name and its fields
-abbrev pub fault_text : VerifyFault → List ℕ
-fault_text fault = decimal (number_of fault) ++ codes " " ++ name_and_fields fault
+number_of fault = (reason_of fault).number
 
 -- the image is of the level above the shelf, and has an entry for each board
 pub record IsShaped (shelf : List Image) (image : Image) : Type 0 where

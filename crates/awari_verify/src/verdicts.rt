@@ -1,15 +1,17 @@
 //! Whether an image may stand as the next level of a shelf.
 
 ghost use Rattle.std.specs.Prelude.{◌≡◌, ◌<◌, ◌↔◌, [], ◌∷◌, ◌++◌, IsOk, IfOk, IfErr, IsNone, IfSome};
+ghost use Rattle.awari_faults.specs.Parts.{reason_said};
 ghost use Rattle.awari_rank.specs.Rank.{size_of};
 ghost use Rattle.awari_table.specs.Shelves.{Consistent, IsShelf};
 ghost use Rattle.awari_theory.specs.Truth.{TellsTruth};
-ghost use Rattle.awari_verify.specs.VerifyFault.{IsShaped, IsDue, IsFaultAfter, number_of};
-ghost use Rattle.awari_verify.specs.declared.verdicts.VerifyFault.TheVariants.{Memory};
+ghost use Rattle.awari_verify.specs.VerifyFault.{IsShaped, IsDue, IsFaultAfter, number_of, reason_of};
+ghost use Rattle.awari_verify.specs.declared.verdicts.VerifyFault.TheVariants.{Memory, Refused};
 
 use crate::pieces::first_refusal;
 use crate::rules::Rule;
 use crate::search::Refusal;
+use awari_faults::{Field, Fields, Reason, Value};
 use awari_rank::size;
 use awari_table::{HIGHEST_LEVEL, Image, Level, Shelf};
 use std::alloc::AllocError;
@@ -36,31 +38,49 @@ impl VerifyFault {
     pub fn number(self) -> u8
         ensures { result ≡ number_of self }
     {
+        self.reason().number
+    }
+
+    /// What is told of it: its number, and the rank and the rule of a board that breaks one.
+    pub fn reason(self) -> Reason
+        ensures { reason_said result ≡ reason_of self }
+    {
         match self {
-            VerifyFault::WrongLevel => 20,
-            VerifyFault::WrongSize => 21,
-            VerifyFault::Refused { .. } => 22,
-            VerifyFault::Memory => 23,
+            VerifyFault::WrongLevel => Reason::alone(20),
+            VerifyFault::WrongSize => Reason::alone(21),
+            VerifyFault::Refused { rank, rule } => reason_of_rank(rank, rule),
+            VerifyFault::Memory => Reason::alone(23),
         }
+    }
+}
+
+/// What is told of a board that breaks a rule.
+fn reason_of_rank(rank: u32, rule: Rule) -> Reason
+    ensures { reason_said result ≡ reason_of (Refused rank rule) }
+{
+    let rank = Field {
+        name: "rank",
+        value: Value::Number(u128::from(rank)),
+    };
+    let rule = Field {
+        name: "rule",
+        value: Value::Word(rule.name()),
+    };
+    Reason {
+        number: 22,
+        fields: Fields::Two(rank, rule),
     }
 }
 
 impl fmt::Display for VerifyFault {
     ghost use Rattle.std.specs.Prelude.{Some};
-    ghost use Rattle.awari_verify.specs.VerifyFault.{fault_text};
+    ghost use Rattle.awari_faults.specs.Refusals.{words_text};
+    ghost use Rattle.awari_verify.specs.VerifyFault.{reason_of};
 
-    ghost output = { λ fault. Some (fault_text fault) };
+    ghost output = { λ fault. Some (words_text (reason_of fault)) };
 
     fn fmt<W: fmt::Write>(&self, f: &mut fmt::Formatter<W>) -> fmt::Result {
-        let number = self.number();
-        match *self {
-            VerifyFault::WrongLevel => write!(f, "{number} WrongLevel"),
-            VerifyFault::WrongSize => write!(f, "{number} WrongSize"),
-            VerifyFault::Refused { rank, rule } => {
-                write!(f, "{number} Refused rank {rank} rule {rule}")
-            }
-            VerifyFault::Memory => write!(f, "{number} Memory"),
-        }
+        write!(f, "{}", self.reason())
     }
 }
 

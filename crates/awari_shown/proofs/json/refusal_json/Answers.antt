@@ -2,7 +2,7 @@ use Rattle.std.proofs.Common.{◌∙◌, ◌∷◌, ◌++◌, [], ap}
 use Rattle.std.specs.Prelude.{codes}
 use Rattle.awari_members.proofs.JsonLaws.{append_two}
 use Rattle.awari_members.specs.Json.{json_string}
-use Rattle.awari_members.specs.Members.{Named, marked, number, said}
+use Rattle.awari_members.specs.Members.{Named, marked, number, said, text}
 use Rattle.awari_shown.proofs.JsonLaws.{refusal_json-parts}
 use Rattle.awari_members.specs.declared.forms.Form.TheVariants.{Json}
 use Rattle.awari_shown.proofs.json.refusal_json.Goals as goal
@@ -14,6 +14,7 @@ returns c =
     (append_two c.push_string.new.text.items _ (codes "}\n") _ _
     (c.push_members.ensures.items
     ∙ ap (λ (m : Named). c.push_string.new.text.items ++ marked Json (codes ",") (m ∷ said c.text-name.result ∷ [])) (c.number-number.ensures.said ∙ ap (number (codes "refused")) c.from.ensures)
-    ∙ ap (λ (m : Named). c.push_string.new.text.items ++ marked Json (codes ",") (number (codes "refused") c.args.number ∷ m ∷ [])) c.text-name.ensures.said)
+    ∙ ap (λ (m : Named). c.push_string.new.text.items ++ marked Json (codes ",") (number (codes "refused") c.args.number ∷ m ∷ []))
+    (c.text-name.ensures.said ∙ ap (text (codes "name")) c.name_of.ensures.name))
     c.push_bytes-2.ensures.items))
-    ∙ refusal_json-parts c.args.request.now c.args.number c.args.name.now
+    ∙ refusal_json-parts c.args.request.now c.args.number

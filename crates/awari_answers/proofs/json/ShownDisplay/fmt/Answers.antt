@@ -1,7 +1,7 @@
 use Rattle.std.proofs.Common.{IsOk, List, ℕ, rules, subst}
 use Rattle.std.specs.Fmt.{HasWritten, IsPlainFormatter}
 use Rattle.awari_answers.proofs.RefusalLaws.{parts_are}
-use Rattle.awari_answers.specs.Parts.{said}
+use Rattle.awari_faults.specs.Parts.{said}
 use Rattle.awari_answers.proofs.json.ShownDisplay.fmt.Goals as goal
 
 pub returns-in-Json-clause-writes : goal.returns-in-Json-clause-writes

@@ -1,7 +1,7 @@
 use Rattle.std.proofs.Common.{ap, sym, subst, ◌∙◌}
 use Rattle.std.specs.Prelude.{Option}
 use Rattle.awari_table.specs.Images.{table_of}
-use Rattle.awari_slices.specs.Drafts.{DraftView}
+use Rattle.awari_segments.specs.Slices.{SlicedView}
 use Rattle.awari_page.specs.Held.{HeldView, IsBegun, IfBegun}
 use Rattle.awari_page.proofs.Slices.{spread_one}
 use Rattle.awari_page.proofs.held.Held.spread.Goals as goal

@@ -1,0 +1,4 @@
+pub mod Meanings
+pub mod Means
+pub mod Refusals
+pub mod Parts

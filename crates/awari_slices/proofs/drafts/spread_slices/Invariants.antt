@@ -1,8 +1,0 @@
-use Rattle.awari_slices.specs.Drafts.{AreSlices, GoesOn}
-use Rattle.awari_slices.proofs.drafts.spread_slices.Given as goal
-
-abbrev pub invariant-loop-slice : goal.invariant-loop-slice
-invariant-loop-slice l = record {
-  goes_on : GoesOn l.fn.draft l.after;
-  slices : AreSlices l._slice l.fn.draft l.after;
-}
