@@ -46,7 +46,7 @@ pub fn run_serve_unverified<F: Folder, R: Read, W: Replies, E>(
     match served {
         Ok(()) => 0,
         Err(ServeFault::Write) => 1,
-        Err(fault) => refuse(&mut streams.output, fault.refusal()),
+        Err(fault) => refuse(&mut streams.output, Refusal::alone(fault.reason())),
     }
 }
 
