@@ -63,6 +63,3 @@ image_got stands levels level images says low =
     slice_get-get_or images level no_image (omega (arith, low, levels_said stands levels images says))
     ∙ ap (λ (l : List Image). some_image (get_or l level no_image)) says.said
     ∙ ap some_image (image_there says.names levels level low)
-
-pub said_before : (old new : ℕ → Option (Option (List ℕ))) (levels : ℕ) (images : List Image) → Same old new → Says new levels images → Says old levels images
-said_before old new levels images same says = record { names = says.names; known = λ n. sym (same n) ∙ says.known n; said = says.said }

@@ -10,12 +10,12 @@ ghost use Rattle.awari_places.specs.Faults.{IsPliesFault};
 ghost use Rattle.awari_places.specs.Places.{IsLevelOf, Says};
 
 use crate::files::Files;
-use crate::lines::{best_line, refusal_of};
-use crate::longest::longest_line;
+use crate::lines::{best_line, longest_line, refusal_of};
 use crate::opening::Opened;
 use awari_board::Board;
 use awari_folder::{Folder, FolderFault};
 use awari_play::{LinePlies, told_plies};
+use awari_verify::Rule;
 use std::alloc::Global;
 
 /// The plies of the best line of play from a board by what the files say, or of the longest line. Condition:
@@ -43,7 +43,7 @@ pub fn line_plies<F: Folder>(
     };
     match told_plies(alloc, &mut files, board, moves.as_slice()) {
         Ok(plies) => Ok(plies),
-        Err(unplayed) => Err(refusal_of(unplayed)),
+        Err(unplayed) => Err(refusal_of(unplayed, Rule::V3)),
     }
 }
 
