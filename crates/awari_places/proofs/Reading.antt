@@ -9,7 +9,7 @@ use Rattle.awari_table.specs.declared.images.Entry.{Entry}
 use Rattle.awari_table.specs.declared.images.Image.{Image}
 use Rattle.awari_folder.specs.declared.faults.FolderFault.{FolderFault}
 use Rattle.awari_folder.specs.declared.faults.FolderFault.TheVariants.{Below, File, Open, Verify, Memory, Occupied, Old}
-use Rattle.awari_folder.specs.Contents.{IsOfFile, OpenIfRefused, Refusals, Same}
+use Rattle.awari_folder.specs.Contents.{IsOfFile, OpenIfRefused, Refusals}
 use Rattle.awari_places.specs.Places.{Says, entry_in, image_in, image_named, images_in}
 use Rattle.awari_places.proofs.Saying.{some_of}
 pub use Rattle.awari_places.specs.Lasting.{levels_said, still_says}

@@ -1,5 +1,5 @@
 -- Which refusals are due, by what was read and by what a folder says that did not change.
-use Rattle.std.proofs.Common.{Bool, false, ◌≡◌, ℕ, ◌+◌, ◌<◌, ◌≤◌, List, drop, length, sum, take, nat_lt, Option, Some, None, Result, Ok, Err, inr, refl, sym, ap, subst, ◌∙◌, arith, if◌then◌else◌}
+use Rattle.std.proofs.Common.{Bool, true, false, replicate, ◌≡◌, ℕ, ◌+◌, ◌<◌, ◌≤◌, List, drop, length, sum, take, nat_lt, Option, Some, None, Result, Ok, Err, inl, inr, refl, sym, ap, subst, ◌∙◌, arith, if◌then◌else◌}
 use Rattle.std.proofs.Math.Seq.{take-length}
 use Rattle.std.specs.Prelude.{IfErr, IsErr}
 use Rattle.std.proofs.lemmas.Bool.Decides.{nat_tests}
@@ -10,7 +10,7 @@ use Rattle.awari_file.specs.declared.faults.FileFault.{FileFault}
 use Rattle.awari_file.specs.declared.faults.FileFault.TheVariants as faults
 use Rattle.awari_folder.specs.Contents.{Reads}
 use Rattle.awari_folder.specs.declared.faults.FolderFault.{FolderFault}
-use Rattle.awari_folder.specs.declared.faults.FolderFault.TheVariants.{File, Verify}
+use Rattle.awari_folder.specs.declared.faults.FolderFault.TheVariants.{File, Verify, Memory}
 use Rattle.awari_rank.specs.Rank.{rank_of}
 use Rattle.awari_table.specs.Certificate.{DistancesAreLeast}
 use Rattle.awari_table.specs.Images.{table_of}
@@ -19,7 +19,14 @@ use Rattle.awari_verify.specs.declared.rules.Rule.{Rule}
 use Rattle.awari_verify.specs.declared.verdicts.VerifyFault.TheVariants.{Refused}
 use Rattle.awari_table.specs.declared.images.Entry.{Entry}
 use Rattle.awari_table.specs.declared.images.Image.{Image}
-use Rattle.awari_places.specs.Faults.{IsEntryFault, IsFileFaultAt, IsJudgeFault, IsPlaceFault, IsRefusedAt}
+use Rattle.awari_folder.specs.State.{State}
+use Rattle.awari_play.specs.Saying.{IsRefusedIn}
+use Rattle.awari_play.specs.Unplayed.{IsUnlined}
+use Rattle.awari_play.specs.declared.lookups.Unplayed.{Unplayed}
+use Rattle.awari_play.specs.declared.lookups.Unplayed.TheVariants as unplayed
+use Rattle.awari_places.specs.Asked.{by_files, misjudged_by, stands_in}
+use Rattle.awari_places.specs.Faults.{IsEntryFault, IsFileFaultAt, IsJudgeFault, IsLookFault, IsPlaceFault, IsPliesFault, IsRefusedAt, refusal_of, rule_due}
+use Rattle.awari_places.specs.declared.files.Files.{Files}
 use Rattle.awari_places.specs.Places.{Says}
 pub use Rattle.awari_places.specs.Lasting.{look_before, refused_before}
 
@@ -80,3 +87,26 @@ refused_at (Err f) stands board level rank whole stones ranked is =
 pub breach_at : (stands : Stands) (levels : ℕ) (board : List ℕ) (rule : Rule) (fault : FolderFault) → IsBoard board → sum board < levels → fault ≡ Verify (sum board) (Refused (rank_of board) rule)
     → ((images : List Image) → Says stands levels images → BreaksFirst DistancesAreLeast (table_of images) board rule) → IsJudgeFault levels stands fault
 breach_at stands levels board rule fault whole low told breaks = inr (record { board = board; rule = rule; is_board = whole; known = low; told = told; breaks = breaks })
+
+-- ---- plays that are not told
+
+abbrev no_stones : List ℕ
+no_stones = replicate 12 0
+
+-- want of memory, which may come at any board
+memory_at : (stands : Stands) (levels : ℕ) → 0 < levels → IsLookFault levels stands Memory
+memory_at stands levels some = record { board = no_stones; known = some; here = record { is_board = record { pits = refl; stones = omega arith }; due = tt } }
+
+look_in : {F : Type 0} (state : F → State) (files : Files F) (fault : FolderFault) → IsRefusedIn (by_files state) files fault → IsLookFault files.levels (stands_in state files) fault
+look_in state files fault is = record { board = is.board; known = is.known; here = is.here }
+
+-- why the one or the other line is not told
+pub plies_fault : {F : Type 0} (state : F → State) (files : Files F) (longest : Bool) (fault : Unplayed FolderFault) → 0 < files.levels
+    → IsUnlined longest (by_files state) (misjudged_by state) files fault → IsPliesFault longest files.levels (stands_in state files) (refusal_of (rule_due longest) fault)
+plies_fault state files true unplayed.Memory some is = inl (inl (memory_at _ _ some))
+plies_fault state files true (unplayed.Refused fault) some (inl is) = inl (inl (look_in state files fault is))
+plies_fault state files true (unplayed.Refused fault) some (inr is) = inl is
+plies_fault state files true (unplayed.Illegal b) some is = inr (record { board = b; known = is.known; told = refl; unsaid = is.unsaid })
+plies_fault state files false unplayed.Memory some is = inl (memory_at _ _ some)
+plies_fault state files false (unplayed.Refused fault) some is = inl (look_in state files fault is)
+plies_fault state files false (unplayed.Illegal b) some is = inr (record { board = b; is_board = is.is_board; known = is.known; told = refl; illegal = is.illegal })

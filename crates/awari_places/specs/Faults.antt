@@ -127,6 +127,11 @@ refusal_of rule unplayed.Memory = Memory
 refusal_of rule (unplayed.Refused fault) = fault
 refusal_of rule (unplayed.Illegal board) = Verify (sum board) (Refused (rank_of board) rule)
 
+-- the rule of such a board of the longest line, or of the best line
+abbrev pub rule_due : Bool → Rule
+rule_due true = V6
+rule_due false = V3
+
 -- that board, if there is one, is of a level that has a number
 abbrev pub IsLowAt : Unplayed FolderFault → Type 0
 IsLowAt (unplayed.Illegal board) = sum board ≤ HIGHEST_LEVEL

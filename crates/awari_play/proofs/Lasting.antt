@@ -1,5 +1,5 @@
 -- What stays of a table while it is asked, and which of its refusals are due.
-use Rattle.std.proofs.Common.{◌≡◌, ◌<◌, ℕ, List, inl, inr, refl, subst, sum, sym, Option, Some, None, Result, Ok, Err}
+use Rattle.std.proofs.Common.{◌≡◌, ◌<◌, ℕ, Bool, true, false, List, inl, inr, refl, subst, sum, sym, Option, Some, None, Result, Ok, Err}
 use Rattle.std.specs.Prelude.{IfErr, IfOk, IsErrAnd}
 use Rattle.std.specs.Borrow.{Bor}
 use Rattle.awari_table.specs.Shelves.{IsShelf}
@@ -7,7 +7,7 @@ use Rattle.awari_table.specs.declared.images.Image.{Image}
 use Rattle.awari_play.proofs.Following.{planned}
 use Rattle.awari_play.specs.Saying.{IsLasting, IsRefusedIn, Saying}
 use Rattle.awari_play.specs.OnShelf.{on_shelf}
-use Rattle.awari_play.specs.Unplayed.{IsIllegal, IsNotLegal, IsUnheld, IsUnplayed}
+use Rattle.awari_play.specs.Unplayed.{IsIllegal, IsNotLegal, IsUnheld, IsUnlined, IsUnplayed}
 use Rattle.awari_play.specs.declared.lookups.Unplayed.{Unplayed}
 use Rattle.awari_play.specs.declared.lookups.Unplayed.TheVariants.{Memory, Refused, Illegal}
 
@@ -61,6 +61,11 @@ pub shelf_plans : (shelf : Bor (List Image)) (board : List ℕ) → IsShelf shel
 shelf_plans shelf board right is =
     let (x, plan, legal) = planned shelf.now board right is.is_board is.known is.some in
     subst (IsNotLegal board) plan (is.illegal shelf.now refl) legal
+
+-- so neither line comes to a board where no legal pit is due
+pub shelf_lines : (longest : Bool) (shelf : Bor (List Image)) (board : List ℕ) → IsShelf shelf.now → IsUnlined longest on_shelf (λ s fault. ⊥) shelf (Illegal board) → ⊥
+shelf_lines true shelf board right is = is.unsaid shelf.now refl
+shelf_lines false shelf board right is = shelf_plans shelf board right is
 
 pub none_legal : (p : List ℕ) (o : Option ℕ) → ((x : ℕ) → o ≡ Some x → ⊥) → IsNotLegal p o
 none_legal p None none = tt

@@ -1,4 +1,4 @@
-use Rattle.std.proofs.Common.{◌≡◌, ◌<◌, [], ap, arith, refl, rules, subst, sum, sym, ◌∙◌}
+use Rattle.std.proofs.Common.{◌≡◌, ◌<◌, [], ap, arith, rules, subst, sum, sym, ◌∙◌}
 use Rattle.awari_board.specs.Rules.{IsLegal}
 use Rattle.awari_table.specs.Certificate.{IsRight}
 use Rattle.awari_table.specs.Images.{entry_of, table_of}

@@ -1,4 +1,4 @@
-use Rattle.std.proofs.Common.{arith, rules}
+use Rattle.std.proofs.Common.{arith}
 use Rattle.std.proofs.lemmas.Int.{ints}
 use Rattle.awari_play.proofs.HoldingOut.{far_planned, far_stubborn_ok}
 use Rattle.awari_play.proofs.longest.pit_by.Goals as goal

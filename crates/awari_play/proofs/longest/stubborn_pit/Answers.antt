@@ -1,7 +1,6 @@
 use Rattle.std.proofs.Common.{rules}
 use Rattle.awari_table.specs.Images.{table_of}
 use Rattle.awari_play.proofs.HoldingOut.{none_takes, none_takes-more, holds_longest, one_takes}
-use Rattle.awari_play.proofs.Lasting.{err_same, refused_before}
 use Rattle.awari_play.proofs.longest.stubborn_pit.Goals as goal
 
 pub loop-pit-init : goal.loop-pit-init

@@ -1,5 +1,4 @@
 use Rattle.std.proofs.Common.{arith, subst, sym}
-use Rattle.std.specs.Prelude.{IfOk}
 use Rattle.awari_table.proofs.CertificateLemmas.{right_from_shelf}
 use Rattle.awari_table.specs.Certificate.{IsRight}
 use Rattle.awari_table.specs.Images.{table_of}
