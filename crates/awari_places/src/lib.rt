@@ -29,6 +29,7 @@ mod said;
 mod weighing;
 
 pub use entries::entry;
+pub use files::Files;
 pub use kept::Run;
 pub use laws::{right_files_are_opened, right_files_say_their_shelf};
 pub use lines::{best_line, longest_line};
