@@ -1,16 +1,7 @@
 -- Tests of the six pits of a side.
 use Rattle.std.proofs.Common.{◌≡◌, ◌≢◌, ℕ, zero, suc, ◌+◌, ◌<◌, Bool, true, false, List, [], ◌∷◌, count_by, refl, arith}
+use Rattle.awari_board.proofs.Legal.{below_six}
 use Rattle.awari_block.specs.Tally.{pits}
-
--- a number below six
-pub below_six : (P : ℕ → Type 0) → P 0 → P 1 → P 2 → P 3 → P 4 → P 5 → (x : ℕ) → x < 6 → P x
-below_six P a b c d e f zero h = a
-below_six P a b c d e f (suc zero) h = b
-below_six P a b c d e f (suc (suc zero)) h = c
-below_six P a b c d e f (suc (suc (suc zero))) h = d
-below_six P a b c d e f (suc (suc (suc (suc zero)))) h = e
-below_six P a b c d e f (suc (suc (suc (suc (suc zero))))) h = f
-below_six P a b c d e f (suc (suc (suc (suc (suc (suc x)))))) h = absurd (omega arith)
 
 -- a test that fails at one more pit counts one less
 pub count_by-one_less : (f g : ℕ → Bool) (x : ℕ) → x < 6 → f x ≡ true → g x ≡ false → ((y : ℕ) → y ≢ x → g y ≡ f y) → count_by f pits ≡ count_by g pits + 1

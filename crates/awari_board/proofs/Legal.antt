@@ -34,7 +34,7 @@ none_of a b c d e f none = grind arith
 all_none : (a b c d e f : Bool) → a ≡ false → b ≡ false → c ≡ false → d ≡ false → e ≡ false → f ≡ false → not (a || (b || (c || (d || (e || f))))) ≡ true
 all_none a b c d e f none_a none_b none_c none_d none_e none_f = grind arith
 
-below_six : (P : ℕ → Type 0) → P 0 → P 1 → P 2 → P 3 → P 4 → P 5 → (x : ℕ) → x < 6 → P x
+pub below_six : (P : ℕ → Type 0) → P 0 → P 1 → P 2 → P 3 → P 4 → P 5 → (x : ℕ) → x < 6 → P x
 below_six P a b c d e f zero own = a
 below_six P a b c d e f (suc zero) own = b
 below_six P a b c d e f (suc (suc zero)) own = c

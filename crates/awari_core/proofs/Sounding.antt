@@ -1,6 +1,6 @@
 -- Owners that are sound together stay so, whatever is opened and taken.
 use Rattle.std.proofs.Common.{◌≡◌, ℕ, ◌<◌, ◌==◌, ◌&&◌, inl, inr, Bool, true, false, cond, if◌then◌else◌, List, [], ◌∷◌, ◌++◌, All, ℤ, refl, sym, ap, subst, ◌∙◌, arith, append_assoc}
-use Rattle.std.proofs.lemmas.Bool.{cases_eq, false≢true}
+use Rattle.std.proofs.lemmas.Bool.{cases_eq, false≢true, ne_eqb}
 use Rattle.std.proofs.lemmas.Bool.Decides.{nat_tests}
 use Rattle.awari_block.specs.Part.{Part}
 use Rattle.awari_block.specs.declared.notes.Note.{Note}
@@ -49,31 +49,28 @@ with_more lists i j notes a b = if b == j then with_taken (λ c. lists c b) i no
 eqb_same : (x y : ℕ) → x ≡ y → (x == y) ≡ true
 eqb_same x y e = grind (arith, nat_tests)
 
-eqb_apart : (x y : ℕ) → (x ≡ y → ⊥) → (x == y) ≡ false
-eqb_apart x y h = grind (arith, nat_tests)
-
 pub part_here : (part : ℕ → Part) (j : ℕ) (p : Part) → with_part part j p j ≡ p
 part_here part j p = ap (λ b. cond b p (part j)) (eqb_same j j refl)
 
 pub part_other : (part : ℕ → Part) (j : ℕ) (p : Part) (k : ℕ) → (k ≡ j → ⊥) → with_part part j p k ≡ part k
-part_other part j p k apart = ap (λ b. cond b p (part k)) (eqb_apart k j apart)
+part_other part j p k apart = ap (λ b. cond b p (part k)) (ne_eqb k j apart)
 
 module _ (lists : ℕ → ℕ → List Note) (i j : ℕ) (notes : List Note) where
   pub list_here : with_list lists i j notes i j ≡ notes
   list_here = ap (λ b. cond (b && (j == j)) notes (lists i j)) (eqb_same i i refl) ∙ ap (λ b. cond b notes (lists i j)) (eqb_same j j refl)
 
   pub list_from : (a b : ℕ) → (a ≡ i → ⊥) → with_list lists i j notes a b ≡ lists a b
-  list_from a b apart = ap (λ t. cond (t && (b == j)) notes (lists a b)) (eqb_apart a i apart)
+  list_from a b apart = ap (λ t. cond (t && (b == j)) notes (lists a b)) (ne_eqb a i apart)
 
   pub list_to : (a b : ℕ) → (b ≡ j → ⊥) → with_list lists i j notes a b ≡ lists a b
-  list_to a b apart = ap (λ t. cond ((a == i) && t) notes (lists a b)) (eqb_apart b j apart) ∙ ap (λ t. cond t notes (lists a b)) (and_false (a == i))
+  list_to a b apart = ap (λ t. cond ((a == i) && t) notes (lists a b)) (ne_eqb b j apart) ∙ ap (λ t. cond t notes (lists a b)) (and_false (a == i))
     where
       and_false : (t : Bool) → (t && false) ≡ false
       and_false true = refl
       and_false false = refl
 
   more_to : (a b : ℕ) → (b ≡ j → ⊥) → with_more lists i j notes a b ≡ lists a b
-  more_to a b apart = ap (λ t. cond t (with_taken (λ c. lists c b) i notes a) (lists a b)) (eqb_apart b j apart)
+  more_to a b apart = ap (λ t. cond t (with_taken (λ c. lists c b) i notes a) (lists a b)) (ne_eqb b j apart)
 
   more_at : (a : ℕ) → with_more lists i j notes a j ≡ with_taken (λ c. lists c j) i notes a
   more_at a = ap (λ t. cond t (with_taken (λ c. lists c j) i notes a) (lists a j)) (eqb_same j j refl)
@@ -82,7 +79,7 @@ module _ (lists : ℕ → ℕ → List Note) (i j : ℕ) (notes : List Note) whe
   more_from a b apart = at (b == j)
     where
       at : (t : Bool) → cond t (with_taken (λ c. lists c b) i notes a) (lists a b) ≡ lists a b
-      at true = ap (λ t. cond t (lists a b ++ notes) (lists a b)) (eqb_apart a i apart)
+      at true = ap (λ t. cond t (lists a b ++ notes) (lists a b)) (ne_eqb a i apart)
       at false = refl
 
   more_here : with_more lists i j notes i j ≡ lists i j ++ notes

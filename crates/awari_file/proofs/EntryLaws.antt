@@ -19,7 +19,7 @@ use Rattle.awari_file.proofs.SpellLaws.{IsBytes, IsBytes-drop, Takes, Takes-then
 abbrev pub entry_with : ℤ → Option ℕ → ℕ → Entry
 entry_with v p d = record { value = v; plan = p; dist = d }
 
-abbrev done : Entry → Result Entry FileFault
+abbrev pub done : Entry → Result Entry FileFault
 done e = Ok e
 
 made_again : (v w : ℤ) (p q : Option ℕ) (d n : ℕ) → v ≡ w → p ≡ q → d ≡ n → done (entry_with v p d) ≡ done (entry_with w q n)

@@ -15,7 +15,7 @@ use Rattle.awari_file.specs.Reading.{file_in, end_at}
 use Rattle.awari_file.specs.Source.{Answers, StopsIn, IsSoundSoFar, IsRefused}
 use Rattle.awari_file.specs.Sealing.{IsBehind, IsUnsealed, Seals, Stops, StopsBy, EndsEarly, Tells, TellsBehind, digest_of, fault_behind}
 use Rattle.awari_file.proofs.EndLaws.{another_digest, nothing_behind, some_behind, too_short}
-use Rattle.awari_file.proofs.WholeLaws.{after_end, known_intro}
+use Rattle.awari_file.proofs.WholeLaws.{after_end, known_intro, loaded_of}
 use Rattle.awari_file.proofs.WholeSpell.{file_on, size_small, low_in}
 
 abbrev body_of : Loaded → List ℕ
@@ -113,10 +113,6 @@ known_stops a b e f = known_intro a (λ xs. Stops xs b e) f
 pub known_unsealed : (a b : Option (List ℕ)) (file : Unsealed) → ((xs : List ℕ) → a ≡ Some xs → IsUnsealed file xs b) → IfSome a (λ xs. IsUnsealed file xs b)
 known_unsealed a b file f = known_intro a (λ xs. IsUnsealed file xs b) f
 
--- what was found behind a header
-abbrev pub unsealed_of : Header → List Entry → List ℕ → Loaded
-unsealed_of h es digest = record { version = h.version; image = record { level = h.level; limit = h.limit; entries = es }; below = h.below; digest = digest }
-
 pub tells : (e : FileFault) (old new : ℕ) → (e ≡ faults.Read → Grew old new) → (e ≡ faults.Truncated → new ≡ old) → old ≤ new → Tells e old new
 tells faults.Read old new read early more = read refl
 tells faults.Truncated old new read early more = early refl
@@ -132,9 +128,9 @@ tells faults.Write old new read early more = more
 
 -- the same of entries that are the same
 pub taken_as : (xs : List ℕ) (h : Header) (new es : List Entry) (done : List ℕ) → new ≡ es
-    → HasFile h.version (unsealed_of h new []).image h.below × (done ≡ body_of (unsealed_of h new []))
-    → HasFile h.version (unsealed_of h es []).image h.below × (done ≡ body_of (unsealed_of h es []))
-taken_as xs h new es done same is = subst (λ (l : List Entry). HasFile h.version (unsealed_of h l []).image h.below × (done ≡ body_of (unsealed_of h l []))) same is
+    → HasFile h.version (loaded_of h new []).image h.below × (done ≡ body_of (loaded_of h new []))
+    → HasFile h.version (loaded_of h es []).image h.below × (done ≡ body_of (loaded_of h es []))
+taken_as xs h new es done same is = subst (λ (l : List Entry). HasFile h.version (loaded_of h l []).image h.below × (done ≡ body_of (loaded_of h l []))) same is
 
 -- no whole digest came
 pub end_stops : (e : FileFault) (found : Loaded) (bytes left : List ℕ) (known : Option (List ℕ)) → HasFile found.version found.image found.below → bytes ≡ body_of found ++ left → EndsEarly left known e → Stops bytes known e

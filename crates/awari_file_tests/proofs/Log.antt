@@ -1,15 +1,12 @@
 -- A log with one file more.
-use Rattle.std.proofs.Common.{arith, ◌≡◌, ◌≢◌, inl, inr, ⊎_elim, eqb, true, List, ℕ, [], ◌∷◌, ◌++◌, Some, None, ap, sym, if◌then◌else◌}
-use Rattle.std.proofs.lemmas.Bool.{eqb-true, false_from_ne_true}
+use Rattle.std.proofs.Common.{arith, refl, ◌≡◌, ◌≢◌, inl, inr, ⊎_elim, eqb, true, List, ℕ, [], ◌∷◌, ◌++◌, Some, None, ap, sym, if◌then◌else◌}
+use Rattle.std.proofs.lemmas.Bool.{eq-eqb, eqb-true, false_from_ne_true}
 use Rattle.awari_file_tests.specs.declared.memory.Put.{Put}
 use Rattle.awari_folder.specs.Contents.{IsLeftOf, LeavesToo, LeavesStill}
 use Rattle.awari_file_tests.specs.Log.{named, newer, bytes_under, kept_of, MayLeave}
 
-same_number : (n : ℕ) → eqb n n ≡ true
-same_number n = grind arith
-
 pub named-new : (puts : List Put) (put : Put) → named (puts ++ put ∷ []) put.level ≡ Some put.bytes.items
-named-new [] put = ap (λ b. newer None (if b then Some put.bytes.items else None)) (same_number put.level)
+named-new [] put = ap (λ b. newer None (if b then Some put.bytes.items else None)) (eq-eqb put.level put.level refl)
 named-new (first ∷ puts) put = ap (λ o. newer o (bytes_under first put.level)) (named-new puts put)
 
 pub named-other : (puts : List Put) (put : Put) (n : ℕ) → n ≢ put.level → named (puts ++ put ∷ []) n ≡ named puts n

@@ -18,7 +18,8 @@ use Rattle.awari_file.specs.Source.{BeginsRight}
 use Rattle.awari_file.proofs.FieldLaws.{bind_ok}
 use Rattle.awari_file.proofs.Loop.{nothing_yet, ok_from, some_right}
 use Rattle.awari_file.specs.FileText.{IsFileOf, found_of}
-use Rattle.awari_file.proofs.Sealed.{image_read, seal_stops, sealed_is, unsealed_of}
+use Rattle.awari_file.proofs.Sealed.{image_read, seal_stops, sealed_is}
+use Rattle.awari_file.proofs.WholeLaws.{loaded_of}
 use Rattle.awari_file.proofs.WholeSpell.{file_again, low_in, size_small}
 use Rattle.awari_folder.specs.declared.faults.FolderFault.{FolderFault}
 use Rattle.awari_folder.specs.declared.faults.FolderFault.TheVariants.{Below, File, Open, Verify, Memory, Occupied, Old}
@@ -28,7 +29,7 @@ use Rattle.awari_folder.specs.Verifying.{IsMisplaced, IsReadAs, IsRefusal, IsTol
 
 -- what is read behind the entries of a file, and behind its header
 abbrev after_entries : List ℕ → Header → List Entry × List ℕ → Result Loaded FileFault
-after_entries bytes header entries = end_at (take (length bytes - length entries.1) bytes) Truncated entries.1 >>= λ digest. Ok (unsealed_of header entries.0 digest)
+after_entries bytes header entries = end_at (take (length bytes - length entries.1) bytes) Truncated entries.1 >>= λ digest. Ok (loaded_of header entries.0 digest)
 
 abbrev after_header : List ℕ → Header × List ℕ → Result Loaded FileFault
 after_header bytes header = entries_at (size_of header.0.level) Truncated header.1 >>= λ entries. after_entries bytes header.0 entries

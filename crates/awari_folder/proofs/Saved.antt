@@ -2,7 +2,7 @@
 use Rattle.std.proofs.Common.{arith, ◌≡◌, ◌≢◌, ◌<◌, ◌≤◌, ◌+◌, ⊎_elim, true, false, eqb, if◌then◌else◌, List, ℕ, zero, suc, [], ◌∷◌, ◌++◌, length, Option, Some, None, Result, Ok, Err, ap, sym, refl, subst, ◌∙◌, length-append}
 use Rattle.std.specs.Prelude.{IfOk, IfSome, IsSomeAnd, OnOk}
 use Rattle.awari_folder.specs.declared.faults.FolderFault.{FolderFault}
-use Rattle.std.proofs.lemmas.Bool.{eqb-true, false_from_ne_true, cases_lt}
+use Rattle.std.proofs.lemmas.Bool.{eq-eqb, eqb-true, false_from_ne_true, cases_lt}
 use Rattle.std.proofs.lemmas.Bool.Decides.{eqb_tells}
 use Rattle.sha2.specs.Sha256.{sha256}
 use Rattle.awari_table.specs.declared.TheConstants.{HIGHEST_LEVEL}
@@ -13,9 +13,6 @@ use Rattle.awari_file.proofs.WholeSpell.{told_apart}
 use Rattle.awari_folder.specs.NextFile.{IsNextFile}
 use Rattle.awari_folder.specs.Contents.{Same, SameBut, Becomes, AreNames, HoldLevels, HoldsIn, IsStored}
 use Rattle.awari_folder.specs.State.{IsOwnDigest, Saves, State, Unchanged}
-
-same_number : (n : ℕ) → eqb n n ≡ true
-same_number n = grind arith
 
 none_is_some : {A : Type 0} (name : Option (List ℕ)) (bytes : List ℕ) → name ≡ None → name ≡ Some bytes → A
 none_is_some name bytes none some = absurd cc
@@ -51,7 +48,7 @@ abbrev with_name : (ℕ → Option (List ℕ)) → ℕ → List ℕ → ℕ → 
 with_name names level bytes n = if eqb n level then Some bytes else names n
 
 with_own : (names : ℕ → Option (List ℕ)) (level : ℕ) (bytes : List ℕ) → with_name names level bytes level ≡ Some bytes
-with_own names level bytes = rw (same_number level) refl
+with_own names level bytes = rw (eq-eqb level level refl) refl
 
 with_other : (names : ℕ → Option (List ℕ)) (level : ℕ) (bytes : List ℕ) (n : ℕ) → n ≢ level → with_name names level bytes n ≡ names n
 with_other names level bytes n other = let differs : eqb n level ≡ false = false_from_ne_true _ (λ e. other (eqb-true _ _ e)) in rw differs refl
@@ -123,7 +120,7 @@ top_of : (lower : List Image) (below : List ℕ) (shelf : List Image) (digest : 
 top_of lower below shelf digest None next = absurd next
 top_of lower below shelf digest (Some bytes) next = (next.loaded.image, next.on_top, next.right, (bytes, refl))
 
-held_length : (names : ℕ → Option (List ℕ)) (n : ℕ) (shelf : List Image) (digest : List ℕ) → HoldLevels names n shelf digest → length shelf ≡ n
+pub held_length : (names : ℕ → Option (List ℕ)) (n : ℕ) (shelf : List Image) (digest : List ℕ) → HoldLevels names n shelf digest → length shelf ≡ n
 held_length names zero shelf digest held = ap length held.0
 held_length names (suc n) shelf digest (lower, below, held, next) =
     let top = top_of lower below shelf digest (names n) next in

@@ -1,6 +1,6 @@
 -- How boards are shared out, and what is sent where.
 use Rattle.std.proofs.Common.{◌≡◌, ℕ, suc, ◌+◌, ◌-◌, ◌*◌, ◌/◌, ◌<◌, ◌≤◌, ◌==◌, inl, inr, Bool, true, false, not, ◌&&◌, cond, nat_le, nat_lt, min, List, [], ◌∷◌, length, get_or, map, filter, sum, All, refl, sym, ap, subst₂, ◌∙◌, arith, eqb-true}
-use Rattle.std.proofs.lemmas.Bool.{cases_lt, cases_eq, false≢true}
+use Rattle.std.proofs.lemmas.Bool.{cases_lt, cases_eq, false≢true, ne_eqb}
 use Rattle.std.proofs.lemmas.Bool.Decides.{nat_tests}
 use Rattle.std.proofs.lemmas.Nat.{le-div, div_below, div-add-mod', mod_below, mul-le}
 use Rattle.std.proofs.Math.Nat.{div-one, suc-mul, div-mul-le_self, lt-div-mul-add}
@@ -23,16 +23,12 @@ use Rattle.awari_owner.proofs.Hearing.{note_fits}
 use Rattle.awari_owner.proofs.Spreading.{AreSources}
 use Rattle.awari_owner.proofs.SpreadNotes.{gives_by}
 
--- another number's test
-neq : (a b : ℕ) → (a ≡ b → ⊥) → (a == b) ≡ false
-neq a b h = grind (arith, nat_tests)
-
 and_false : (t : Bool) → (t && false) ≡ false
 and_false true = refl
 and_false false = refl
 
 split : (n a b : ℕ) → (b ≡ a → ⊥) → (t : Bool) → (n == b) ≡ t → (not (n == a) && (n == b)) ≡ (n == b)
-split n a b h true e = ap (λ t. not t && (n == b)) (neq n a (λ f. h (sym (eqb-true n b e) ∙ f)))
+split n a b h true e = ap (λ t. not t && (n == b)) (ne_eqb n a (λ f. h (sym (eqb-true n b e) ∙ f)))
 split n a b h false e = ap (λ t. not (n == a) && t) e ∙ and_false (not (n == a)) ∙ sym e
 
 apart : (n a b : ℕ) → (b ≡ a → ⊥) → (not (n == a) && (n == b)) ≡ (n == b)

@@ -6,9 +6,7 @@ use Rattle.std.proofs.lemmas.List.FromFn.{length-range_with_len}
 use Rattle.std.proofs.lemmas.List.Sums.{sum_by-cons}
 use Rattle.std.proofs.lemmas.Nat.{pow-add, mul-le, shr_high, mod-pow-add, shr-shr}
 use Rattle.awari_packed.specs.Packed.{packed, unpacked, pits_of, IsPacking, IsPackOf, length-unpacked, packed-pits_of}
-
-pub sum-cons : (x : ℕ) (t : List ℕ) → sum (x ∷ t) ≡ x + sum t
-sum-cons x t = sum_by-cons (λ x. x) x t
+use Rattle.awari_rank.proofs.Ranking.{sum-cons}
 
 -- each is a digit
 abbrev pub Small : List ℕ → Type 0

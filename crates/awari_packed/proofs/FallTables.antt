@@ -5,6 +5,7 @@ use Rattle.std.specs.List.{range_with_len}
 use Rattle.awari_board.specs.Rules.{fallen, landing}
 use Rattle.awari_packed.specs.Packed.{packed}
 use Rattle.awari_packed.specs.declared.scattering.TheConstants.{SCATTERED, LAST}
+use Rattle.std.proofs.lemmas.Bool.{eqb-true}
 
 unfoldable pub all_below : (ℕ → Bool) → ℕ → Bool
 all_below p zero = true
@@ -28,17 +29,14 @@ last_ok : all_below (λ i. all_below (λ n. eqb (last_at i n) (landing i n)) 25)
 unfolding all_below last_at
 last_ok = refl
 
-tested : (a b : ℕ) → eqb a b ≡ true → a ≡ b
-tested a b = (Decides-eqb a b).0
-
 pub scattered_is : (i n : ℕ) → i < 6 → n < 25 → at i n ≡ packed (map (fallen i n) (range_with_len 0 12))
 scattered_is i n in_rows in_row =
     let p : ℕ → Bool = λ n. eqb (at i n) (packed (map (fallen i n) (range_with_len 0 12))) in
     let rows : ℕ → Bool = λ i. all_below (λ n. eqb (at i n) (packed (map (fallen i n) (range_with_len 0 12)))) 25 in
-    tested (at i n) (packed (map (fallen i n) (range_with_len 0 12))) (below_all p 25 (below_all rows 6 scattered_ok i in_rows) n in_row)
+    eqb-true (at i n) (packed (map (fallen i n) (range_with_len 0 12))) (below_all p 25 (below_all rows 6 scattered_ok i in_rows) n in_row)
 
 pub last_is : (i n : ℕ) → i < 6 → n < 25 → last_at i n ≡ landing i n
 last_is i n in_rows in_row =
     let p : ℕ → Bool = λ n. eqb (last_at i n) (landing i n) in
     let rows : ℕ → Bool = λ i. all_below (λ n. eqb (last_at i n) (landing i n)) 25 in
-    tested (last_at i n) (landing i n) (below_all p 25 (below_all rows 6 last_ok i in_rows) n in_row)
+    eqb-true (last_at i n) (landing i n) (below_all p 25 (below_all rows 6 last_ok i in_rows) n in_row)

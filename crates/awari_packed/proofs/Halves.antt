@@ -5,7 +5,8 @@ use Rattle.std.proofs.lemmas.List.Sums.{sum_by-take-drop}
 use Rattle.awari_board.specs.Rules.{turned}
 use Rattle.awari_board.proofs.Keeping.{sum-turned}
 use Rattle.awari_packed.specs.Packed.{packed, unpacked, pits_of, IsPacking, IsPackOf, packed-pits_of}
-use Rattle.awari_packed.proofs.Digits.{Small, small-few, sum-cons, packed_below, packed-append, unpacked-packed, long-pits_of}
+use Rattle.awari_packed.proofs.Digits.{Small, small-few, packed_below, packed-append, unpacked-packed, long-pits_of}
+use Rattle.awari_rank.proofs.Ranking.{sum-cons}
 
 -- what the halves are
 record Halves (n : ℕ) (b : List ℕ) : Type 0 where

@@ -9,7 +9,7 @@ use Rattle.awari_packed.proofs.Digits.{packed-set, long-pits_of}
 abbrev pub stone_moved : List ℕ → ℕ → ℕ → List ℕ
 stone_moved b x y = set (set b x (get_or b x 0 - 1)) y (get_or b y 0 + 1)
 
-one_more_of : (g p : ℕ) → (g + 1) * p ≡ g * p + p
+pub one_more_of : (g p : ℕ) → (g + 1) * p ≡ g * p + p
 one_more_of g p = grind arith
 
 sum_moved : (b : List ℕ) (x y : ℕ) → x < length b → y < length b → y ≢ x → 0 < get_or b x 0 → sum (stone_moved b x y) ≡ sum b

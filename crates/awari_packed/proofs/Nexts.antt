@@ -1,19 +1,20 @@
 -- The next board, as a number.
 use Rattle.std.proofs.Common.{◌≡◌, ℕ, zero, suc, ◌+◌, ◌*◌, ◌-◌, ◌/◌, ◌%◌, ◌^◌, ◌<◌, ◌≤◌, inl, inr, List, [], ◌∷◌, length, sum, get_or, set, drop, refl, sym, ◌∙◌, ap, subst, arith, get_or-set_same, length-drop}
-use Rattle.std.proofs.lemmas.List.{get_or-set_other, get_or-drop}
+use Rattle.std.proofs.lemmas.List.{get_or-set_other, get_or-drop, length-set}
 use Rattle.std.proofs.Math.Nat.{pow-le-pow_right}
 use Rattle.std.specs.Int.{trailing_zeros, w64}
 use Rattle.std.proofs.lemmas.Bool.{cases_eq, cases_lt}
-use Rattle.std.proofs.lemmas.List.{length-set}
 use Rattle.std.proofs.lemmas.List.Sums.{get_or-le-sum_by}
 use Rattle.std.proofs.lemmas.Nat.{mod-pow-add, pow_pos, mul-le}
 use Rattle.std.proofs.lemmas.Nat.Bits.{bit_at-trailing_zeros}
 use Rattle.awari_rank.specs.Held.{IsLastHeld}
 use Rattle.awari_rank.proofs.Succeeding.{succeeded}
 use Rattle.awari_packed.specs.Packed.{packed, unpacked, pits_of, IsPacking, IsPackOf, packed-unpacked}
-use Rattle.awari_packed.proofs.Digits.{sum-cons, packed-set, long-pits_of, get_or-pits_of}
+use Rattle.awari_packed.proofs.Digits.{packed-set, long-pits_of, get_or-pits_of}
+use Rattle.awari_rank.proofs.Ranking.{sum-cons}
 use Rattle.awari_packed.proofs.Emptying.{without_is}
 use Rattle.awari_packed.proofs.Whole.{IsBoard-pits_of}
+use Rattle.awari_packed.proofs.Moving.{one_more_of}
 
 drop-unpacked : (j k m n : ℕ) → m ≡ j + k → drop j (unpacked m n) ≡ unpacked k n
 unfolding unpacked
@@ -92,9 +93,6 @@ lowest_of n is some fits =
 
 abbrev pub succeeding : List ℕ → ℕ → List ℕ
 succeeding b held = set (set (set b held 0) (held - 1) (get_or (set b held 0) (held - 1) 0 + 1)) 11 (get_or b held 0 - 1)
-
-one_more_of : (g p : ℕ) → (g + 1) * p ≡ g * p + p
-one_more_of g p = grind arith
 
 right_of : (b : List ℕ) (j : ℕ) → j ≤ 11 → 11 < length b → get_or b 11 0 ≤ sum (drop j b)
 right_of b j left here =

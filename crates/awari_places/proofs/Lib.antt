@@ -3,6 +3,5 @@ pub mod Saying
 pub mod Reading
 pub mod Refusing
 pub mod Framing
-pub mod Playing
 pub mod Running
 pub mod Collecting

@@ -8,9 +8,7 @@ use Rattle.awari_file.specs.declared.faults.FileFault.TheVariants as faults
 use Rattle.awari_file.specs.Reading.{◌>>=◌, field, entry_of, entries_at, header_at}
 use Rattle.awari_file.proofs.FieldLaws.{bind_ok, guard_ok, ok_is, took}
 use Rattle.awari_file.proofs.FileLaws.{header-is}
-
-abbrev done : Entry → Result Entry FileFault
-done e = Ok e
+use Rattle.awari_file.proofs.EntryLaws.{done}
 
 field_there : (s : FileFault) (bytes : List ℕ) (x : Entry × List ℕ) → field 6 entry_of s bytes ≡ Ok x → (entry_of (take 6 bytes) ≡ Ok x.0) × (drop 6 bytes ≡ x.1)
 field_there s bytes x h =

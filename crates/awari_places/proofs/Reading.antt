@@ -9,7 +9,7 @@ use Rattle.awari_table.specs.declared.images.Entry.{Entry}
 use Rattle.awari_table.specs.declared.images.Image.{Image}
 use Rattle.awari_folder.specs.declared.faults.FolderFault.{FolderFault}
 use Rattle.awari_folder.specs.declared.faults.FolderFault.TheVariants.{Below, File, Open, Verify, Memory, Occupied, Old}
-use Rattle.awari_folder.specs.Contents.{IsOfFile, OpenIfRefused, Refusals, Same}
+use Rattle.awari_folder.specs.Contents.{IsOfFile, OpenIfRefused, Refusals}
 use Rattle.awari_places.specs.Places.{Says, entry_in, image_in, image_named, images_in}
 use Rattle.awari_places.proofs.Saying.{some_of}
 pub use Rattle.awari_places.specs.Lasting.{levels_said, still_says}
@@ -63,6 +63,3 @@ image_got stands levels level images says low =
     slice_get-get_or images level no_image (omega (arith, low, levels_said stands levels images says))
     ∙ ap (λ (l : List Image). some_image (get_or l level no_image)) says.said
     ∙ ap some_image (image_there says.names levels level low)
-
-pub said_before : (old new : ℕ → Option (Option (List ℕ))) (levels : ℕ) (images : List Image) → Same old new → Says new levels images → Says old levels images
-said_before old new levels images same says = record { names = says.names; known = λ n. sym (same n) ∙ says.known n; said = says.said }

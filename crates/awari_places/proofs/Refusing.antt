@@ -1,35 +1,34 @@
 -- Which refusals are due, by what was read and by what a folder says that did not change.
-use Rattle.std.proofs.Common.{Bool, false, ◌≡◌, ◌⊎◌, ℕ, ◌+◌, ◌<◌, ◌≤◌, List, drop, length, sum, take, nat_lt, Option, Some, None, Result, Ok, Err, pos, ℤ, inl, inr, refl, sym, ap, subst, ◌∙◌, arith, if◌then◌else◌}
+use Rattle.std.proofs.Common.{Bool, true, false, replicate, ◌≡◌, ℕ, ◌+◌, ◌<◌, ◌≤◌, List, drop, length, sum, take, nat_lt, Option, Some, None, Result, Ok, Err, inl, inr, refl, sym, ap, subst, ◌∙◌, arith, if◌then◌else◌}
 use Rattle.std.proofs.Math.Seq.{take-length}
-use Rattle.std.specs.Prelude.{IfErr, IfSome, IsErr, IsSome, OnErr, ◌<ℤ◌}
+use Rattle.std.specs.Prelude.{IfErr, IsErr}
 use Rattle.std.proofs.lemmas.Bool.Decides.{nat_tests}
-use Rattle.std.proofs.lemmas.Int.{ints}
-use Rattle.awari_board.specs.Rules.{IsBoard, IsLegal}
+use Rattle.awari_board.specs.Rules.{IsBoard}
 use Rattle.awari_file.specs.FileText.{entry_place}
 use Rattle.awari_file.specs.Reading.{◌>>=◌, entry_of, field}
 use Rattle.awari_file.specs.declared.faults.FileFault.{FileFault}
 use Rattle.awari_file.specs.declared.faults.FileFault.TheVariants as faults
-use Rattle.awari_folder.specs.Contents.{Reads, Same}
+use Rattle.awari_folder.specs.Contents.{Reads}
 use Rattle.awari_folder.specs.declared.faults.FolderFault.{FolderFault}
 use Rattle.awari_folder.specs.declared.faults.FolderFault.TheVariants.{File, Verify, Memory}
 use Rattle.awari_rank.specs.Rank.{rank_of}
-use Rattle.awari_play.specs.LongestLine.{HoldsLongest}
-use Rattle.awari_play.proofs.HoldingOut.{far_lost, far_open}
-use Rattle.awari_table.specs.Certificate.{DistancesAreLeast, IsRight, MovesIn, MovesNoLater, Table}
+use Rattle.awari_table.specs.Certificate.{DistancesAreLeast}
 use Rattle.awari_table.specs.Images.{table_of}
 use Rattle.awari_verify.specs.FirstFailure.{BreaksFirst}
-use Rattle.awari_verify.specs.Sights.{Sees}
 use Rattle.awari_verify.specs.declared.rules.Rule.{Rule}
-use Rattle.awari_verify.specs.declared.rules.Rule.TheVariants.{V6}
-use Rattle.awari_verify.specs.declared.rules.Seen.{Seen}
 use Rattle.awari_verify.specs.declared.verdicts.VerifyFault.TheVariants.{Refused}
 use Rattle.awari_table.specs.declared.images.Entry.{Entry}
 use Rattle.awari_table.specs.declared.images.Image.{Image}
-use Rattle.awari_places.specs.Faults.{IsBreachFault, IsDueFault, IsEntryFault, IsFileFaultAt, IsJudgeFault, IsLongestFault, IsLookFault, IsPlaceFault, IsRefusedAt, IsUnsaid}
-use Rattle.awari_play.specs.Unplayed.{IsNotLegal}
+use Rattle.awari_folder.specs.State.{State}
+use Rattle.awari_play.specs.Saying.{IsRefusedIn}
+use Rattle.awari_play.specs.Unplayed.{IsUnlined}
+use Rattle.awari_play.specs.declared.lookups.Unplayed.{Unplayed}
+use Rattle.awari_play.specs.declared.lookups.Unplayed.TheVariants as unplayed
+use Rattle.awari_places.specs.Asked.{by_files, misjudged_by, stands_in}
+use Rattle.awari_places.specs.Faults.{IsEntryFault, IsFileFaultAt, IsJudgeFault, IsLookFault, IsPlaceFault, IsPliesFault, IsRefusedAt, refusal_of, rule_due}
+use Rattle.awari_places.specs.declared.files.Files.{Files}
 use Rattle.awari_places.specs.Places.{Says}
-pub use Rattle.awari_places.specs.Lasting.{refused_before}
-use Rattle.awari_places.proofs.Reading.{still_says}
+pub use Rattle.awari_places.specs.Lasting.{look_before, refused_before}
 
 abbrev Stands : Type 0
 Stands = ℕ → Option (Option (List ℕ))
@@ -83,89 +82,31 @@ refused_at (Err f) stands board level rank whole stones ranked is =
     let there : IsEntryFault (sum board) rank (stands (sum board)) f = subst (λ (n : ℕ). IsEntryFault n rank (stands n) f) stones is in
     record { is_board = whole; due = subst (λ (k : ℕ). IsEntryFault (sum board) k (stands (sum board)) f) ranked there }
 
--- ---- what is due by names that have what they had
-
-pub look_before : (old new : Stands) (levels : ℕ) (fault : FolderFault) → Same old new → IsLookFault levels new fault → IsLookFault levels old fault
-look_before old new levels fault same is = record { board = is.board; known = is.known; here = refused_before old new is.board fault same is.here }
-
-pub look_at : (stands : Stands) (levels : ℕ) (board : List ℕ) (fault : FolderFault) → sum board < levels → IsRefusedAt stands board fault → IsLookFault levels stands fault
-look_at stands levels board fault low is = record { board = board; known = low; here = is }
-
--- want of memory, at a board that is looked at
-pub look_memory : (stands : Stands) (levels : ℕ) (board : List ℕ) (fault : FolderFault) → IsBoard board → sum board < levels → fault ≡ Memory → IsLookFault levels stands fault
-look_memory stands levels board fault whole low told =
-    let here : IsLookFault levels stands Memory = record { board = board; known = low; here = record { is_board = whole; due = tt } } in subst (IsLookFault levels stands) (sym told) here
-
-pub breach_before : (old new : Stands) (levels : ℕ) (fault : FolderFault) → Same old new → IsBreachFault levels new fault → IsBreachFault levels old fault
-breach_before old new levels fault same is =
-    record { board = is.board; rule = is.rule; is_board = is.is_board; known = is.known; told = is.told; breaks = λ images says. is.breaks images (still_says old new levels images same says) }
-
-pub judge_before : (old new : Stands) (levels : ℕ) (fault : FolderFault) → Same old new → IsJudgeFault levels new fault → IsJudgeFault levels old fault
-judge_before old new levels fault same (inl is) = inl (look_before old new levels fault same is)
-judge_before old new levels fault same (inr is) = inr (breach_before old new levels fault same is)
-
-pub unsaid_before : (old new : Stands) (levels : ℕ) (fault : FolderFault) → Same old new → IsUnsaid levels new fault → IsUnsaid levels old fault
-unsaid_before old new levels fault same is = record { board = is.board; known = is.known; told = is.told; unsaid = λ images says. is.unsaid images (still_says old new levels images same says) }
-
-pub longest_before : (old new : Stands) (levels : ℕ) (fault : FolderFault) → Same old new → IsLongestFault levels new fault → IsLongestFault levels old fault
-longest_before old new levels fault same (inl is) = inl (judge_before old new levels fault same is)
-longest_before old new levels fault same (inr is) = inr (unsaid_before old new levels fault same is)
-
--- the same of a call's answer
-pub err_along : {T : Type 0} (r : Result T FolderFault) (P Q : FolderFault → Type 0) → ((f : FolderFault) → P f → Q f) → IfErr r P → IfErr r Q
-err_along (Ok x) P Q go h = tt
-err_along (Err f) P Q go h = go f h
-
 -- ---- judged boards
 
 pub breach_at : (stands : Stands) (levels : ℕ) (board : List ℕ) (rule : Rule) (fault : FolderFault) → IsBoard board → sum board < levels → fault ≡ Verify (sum board) (Refused (rank_of board) rule)
     → ((images : List Image) → Says stands levels images → BreaksFirst DistancesAreLeast (table_of images) board rule) → IsJudgeFault levels stands fault
 breach_at stands levels board rule fault whole low told breaks = inr (record { board = board; rule = rule; is_board = whole; known = low; told = told; breaks = breaks })
 
--- the value is above 0, or it is not
-up_or_not : (v : ℤ) → (pos 0 <ℤ v) ⊎ (pos 0 <ℤ v → ⊥)
-up_or_not v = grind (arith, ints)
+-- ---- plays that are not told
 
--- its plan
-far_plan : (t : Table) (p : List ℕ) → IsRight t p → 1 ≤ t.dist p → (x : ℕ) × (t.plan p ≡ Some x) × IsLegal p x
-far_plan t p r far = r.has_plan (far_open t p r far)
+abbrev no_stones : List ℕ
+no_stones = replicate 12 0
 
--- a board with plies to come, which keeps the rules, has a legal pit that is due
-due_legal : (t : Table) (p : List ℕ) (seen : Seen) (pit : Option ℕ) → Sees t p seen → IsRight t p → 1 ≤ t.dist p → (pos 0 <ℤ seen.entry.value → pit ≡ seen.entry.plan)
-    → (seen.entry.value <ℤ pos 0 → MovesNoLater t p seen.entry.dist → IfSome pit (HoldsLongest t p)) → (seen.entry.value <ℤ pos 0 → MovesIn t p seen.entry.dist → IsSome pit) → IsNotLegal p pit → ⊥
-due_legal t p seen pit sees right far favoured other some illegal = elim (up_or_not (t.value p)) [
-  | inl up ↦
-      let (x, plan, legal) = far_plan t p right far in
-      let is : pit ≡ Some x = favoured (subst (λ v. pos 0 <ℤ v) (sym sees.value) up) ∙ sees.plan ∙ plan in
-      subst (IsNotLegal p) is illegal legal
-  | inr low ↦
-      let lost = far_lost t p right far low in
-      let down : seen.entry.value <ℤ pos 0 = subst (λ v. v <ℤ pos 0) (sym sees.value) lost.0 in
-      held pit (other down (subst (MovesNoLater t p) (sym sees.dist) lost.2)) (some down (subst (MovesIn t p) (sym sees.dist) lost.1)) illegal
-]
-  where
-    held : (pit : Option ℕ) → IfSome pit (HoldsLongest t p) → IsSome pit → IsNotLegal p pit → ⊥
-    held None holds is not = absurd cc
-    held (Some x) holds is not = not holds.move.legal
+-- want of memory, which may come at any board
+memory_at : (stands : Stands) (levels : ℕ) → 0 < levels → IsLookFault levels stands Memory
+memory_at stands levels some = record { board = no_stones; known = some; here = record { is_board = record { pits = refl; stones = omega arith }; due = tt } }
 
-pub undue : (stands : Stands) (levels : ℕ) (p : List ℕ) (seen : Seen) (pit : Option ℕ) (r : Result ℕ FolderFault)
-    → ((images : List Image) → Says stands levels images → Sees (table_of images) p seen) → ((images : List Image) → Says stands levels images → IsRight (table_of images) p)
-    → (pos 0 <ℤ seen.entry.value → pit ≡ seen.entry.plan)
-    → (seen.entry.value <ℤ pos 0 → (t : Table) (p : List ℕ) → Sees t p seen → MovesNoLater t p seen.entry.dist → IfSome pit (HoldsLongest t p))
-    → (seen.entry.value <ℤ pos 0 → (t : Table) (p : List ℕ) → Sees t p seen → MovesIn t p seen.entry.dist → IsSome pit)
-    → IfErr r (λ fault. fault ≡ Verify (sum p) (Refused (rank_of p) V6)) → OnErr r (IsNotLegal p pit) → IfErr r (IsDueFault levels stands p)
-undue stands levels p seen pit (Ok x) sees right favoured other some told illegal = tt
-undue stands levels p seen pit (Err f) sees right favoured other some told illegal = inr (record {
-  told = told;
-  undue = λ images says far.
-      let t = table_of images in
-      let here = sees images says in
-      due_legal t p seen pit here (right images says) far favoured (λ down. other down t p here) (λ down. some down t p here) illegal;
-})
+look_in : {F : Type 0} (state : F → State) (files : Files F) (fault : FolderFault) → IsRefusedIn (by_files state) files fault → IsLookFault files.levels (stands_in state files) fault
+look_in state files fault is = record { board = is.board; known = is.known; here = is.here }
 
--- the refusal of a ply that is to come
-pub due_longest : (old new : Stands) (levels : ℕ) (board : List ℕ) (fault : FolderFault) → Same old new → sum board < levels
-    → ((images : List Image) → Says old levels images → 1 ≤ (table_of images).dist board) → IsDueFault levels new board fault → IsLongestFault levels old fault
-due_longest old new levels board fault same low far (inl is) = inl (judge_before old new levels fault same is)
-due_longest old new levels board fault same low far (inr is) =
-    inr (record { board = board; known = low; told = is.told; unsaid = λ images says. is.undue images (still_says old new levels images same says) (far images says) })
+-- why the one or the other line is not told
+pub plies_fault : {F : Type 0} (state : F → State) (files : Files F) (longest : Bool) (fault : Unplayed FolderFault) → 0 < files.levels
+    → IsUnlined longest (by_files state) (misjudged_by state) files fault → IsPliesFault longest files.levels (stands_in state files) (refusal_of (rule_due longest) fault)
+plies_fault state files true unplayed.Memory some is = inl (inl (memory_at _ _ some))
+plies_fault state files true (unplayed.Refused fault) some (inl is) = inl (inl (look_in state files fault is))
+plies_fault state files true (unplayed.Refused fault) some (inr is) = inl is
+plies_fault state files true (unplayed.Illegal b) some is = inr (record { board = b; known = is.known; told = refl; unsaid = is.unsaid })
+plies_fault state files false unplayed.Memory some is = inl (memory_at _ _ some)
+plies_fault state files false (unplayed.Refused fault) some is = inl (look_in state files fault is)
+plies_fault state files false (unplayed.Illegal b) some is = inr (record { board = b; is_board = is.is_board; known = is.known; told = refl; illegal = is.illegal })

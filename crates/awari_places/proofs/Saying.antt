@@ -23,6 +23,9 @@ use Rattle.awari_places.specs.declared.opening.Opened.{Opened}
 use Rattle.awari_places.specs.Opening.{AreFramed, IsFramed}
 use Rattle.awari_places.specs.Places.{entry_in, entry_or_none, limit_in, limit_or_none, image_in, image_named, images_in}
 use Rattle.awari_places.proofs.Lying.{entry_lies, behind_header}
+use Rattle.awari_folder.proofs.Saved.{held_length}
+use Rattle.awari_file.proofs.WholeLaws.{loaded_of}
+use Rattle.awari_file.proofs.EntryLaws.{done}
 
 -- the parts of a file that was read whole
 record IsRead (bytes : List ℕ) (image : Image) : Type 0 where
@@ -33,22 +36,16 @@ record IsRead (bytes : List ℕ) (image : Image) : Type 0 where
   entries : entries_at (size_of image.level) faults.Truncated front ≡ Ok (image.entries, back)
   limit : header.limit ≡ image.limit
 
-abbrev made : Header → List Entry → List ℕ → Loaded
-made h es digest = record { version = h.version; image = record { level = h.level; limit = h.limit; entries = es }; below = h.below; digest = digest }
-
 read_whole : (bytes : List ℕ) (found : Loaded) → file_in bytes ≡ Ok found → IsRead bytes found.image
 unfolding file_in
 read_whole bytes found read =
     let a = bind_ok (header_at faults.Truncated bytes)
-    (λ header. entries_at (size_of header.0.level) faults.Truncated header.1 >>= λ entries. end_at (take (length bytes - length entries.1) bytes) faults.Truncated entries.1 >>= λ digest. Ok (made header.0 entries.0 digest)) found read in
+    (λ header. entries_at (size_of header.0.level) faults.Truncated header.1 >>= λ entries. end_at (take (length bytes - length entries.1) bytes) faults.Truncated entries.1 >>= λ digest. Ok (loaded_of header.0 entries.0 digest)) found read in
     let b = bind_ok (entries_at (size_of a.0.0.level) faults.Truncated a.0.1)
-    (λ entries. end_at (take (length bytes - length entries.1) bytes) faults.Truncated entries.1 >>= λ digest. Ok (made a.0.0 entries.0 digest)) found a.2 in
-    let c = bind_ok (end_at (take (length bytes - length b.0.1) bytes) faults.Truncated b.0.1) (λ digest. Ok (made a.0.0 b.0.0 digest)) found b.2 in
-    let same = ok_is (made a.0.0 b.0.0 c.0) found c.2 in
+    (λ entries. end_at (take (length bytes - length entries.1) bytes) faults.Truncated entries.1 >>= λ digest. Ok (loaded_of a.0.0 entries.0 digest)) found a.2 in
+    let c = bind_ok (end_at (take (length bytes - length b.0.1) bytes) faults.Truncated b.0.1) (λ digest. Ok (loaded_of a.0.0 b.0.0 digest)) found b.2 in
+    let same = ok_is (loaded_of a.0.0 b.0.0 c.0) found c.2 in
     subst (λ (l : Loaded). IsRead bytes l.image) same (record { header = a.0.0; front = a.0.1; back = b.0.1; begins = a.1; entries = b.1; limit = refl })
-
-abbrev read_ok : Entry → Result Entry FileFault
-read_ok e = Ok e
 
 entry_says : (bytes : List ℕ) (image : Image) (k : ℕ) → IsRead bytes image → k < size_of image.level → get_or image.entries k no_entry ≡ entry_in bytes k
 unfolding entry_in
@@ -83,19 +80,12 @@ pub some_of : (o : Option (List ℕ)) (P : List ℕ → Type 0) → IsSomeAnd o 
 some_of None P h = absurd h
 some_of (Some x) P h = (x, refl, h)
 
-length_held : (names : ℕ → Option (List ℕ)) (n : ℕ) (shelf : List Image) (digest : List ℕ) → HoldLevels names n shelf digest → length shelf ≡ n
-length_held names zero shelf digest held = ap length held.0
-length_held names (suc n) shelf digest (lower, below, held, next) =
-    let (bytes, there, file) = some_of (names n) (λ bytes. IsNextFile lower below bytes shelf digest) next in
-    let few = length_held names n lower below held in
-    ap length file.on_top ∙ length-append lower (file.loaded.image ∷ []) ∙ omega (arith, few)
-
 pub shelf_said : (names : ℕ → Option (List ℕ)) (n : ℕ) (shelf : List Image) (digest : List ℕ) → HoldLevels names n shelf digest → images_in names n ≡ shelf
 unfolding images_in
 shelf_said names zero shelf digest held = sym held.0
 shelf_said names (suc n) shelf digest (lower, below, held, next) =
     let (bytes, there, file) = some_of (names n) (λ bytes. IsNextFile lower below bytes shelf digest) next in
-    let level : file.loaded.image.level ≡ n = file.right.next ∙ length_held names n lower below held in
+    let level : file.loaded.image.level ≡ n = file.right.next ∙ held_length names n lower below held in
     let top : image_in n (names n) ≡ file.loaded.image = ap (image_in n) there ∙ image_says n bytes file.loaded file.file level in
     let more : suc n ≡ n + 1 = omega arith in
     ap (λ (m : ℕ). map (image_named names) (range_with_len 0 m)) more

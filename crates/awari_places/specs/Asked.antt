@@ -3,7 +3,7 @@ use Rattle.std.specs.Prelude.{◌≡◌, ℕ, List, Option}
 use Rattle.awari_folder.specs.State.{State, Unchanged}
 use Rattle.awari_folder.specs.declared.faults.FolderFault.{FolderFault}
 use Rattle.awari_play.specs.Saying.{Saying}
-use Rattle.awari_places.specs.Faults.{IsRefusedAt}
+use Rattle.awari_places.specs.Faults.{IsJudgeFault, IsRefusedAt}
 use Rattle.awari_places.specs.Places.{Says}
 use Rattle.awari_places.specs.declared.files.Files.{Files}
 
@@ -25,3 +25,7 @@ by_files state = record {
   keeps = Keeps state;
   refuses = λ files board fault. IsRefusedAt (stands_in state files) board fault;
 }
+
+-- how they refuse boards that are judged
+abbrev pub misjudged_by : {F : Type 0} → (F → State) → Files F → FolderFault → Type 0
+misjudged_by state files fault = IsJudgeFault files.levels (stands_in state files) fault

@@ -105,15 +105,6 @@ pub record IsBreachFault (levels : ℕ) (stands : ℕ → Option (Option (List �
 abbrev pub IsJudgeFault : ℕ → (ℕ → Option (Option (List ℕ))) → FolderFault → Type 0
 IsJudgeFault levels stands fault = IsLookFault levels stands fault ⊎ IsBreachFault levels stands fault
 
--- It is 83 with V6 at this board, which by what the files say is left by no ply of the line.
-pub record IsUndue (levels : ℕ) (stands : ℕ → Option (Option (List ℕ))) (board : List ℕ) (fault : FolderFault) : Type 0 where
-  pub told : fault ≡ Verify (sum board) (Refused (rank_of board) V6)
-  pub undue : (images : List Image) → Says stands levels images → 1 ≤ (table_of images).dist board → ⊥
-
--- the refusal of a board from which one ply of the line is played
-abbrev pub IsDueFault : ℕ → (ℕ → Option (Option (List ℕ))) → List ℕ → FolderFault → Type 0
-IsDueFault levels stands board fault = IsJudgeFault levels stands fault ⊎ IsUndue levels stands board fault
-
 -- It is 83 with V6 at a board of one of these levels, and it is not known what the files say.
 pub record IsUnsaid (levels : ℕ) (stands : ℕ → Option (Option (List ℕ))) (fault : FolderFault) : Type 0 where
   pub board : List ℕ
@@ -130,13 +121,18 @@ abbrev pub IsPliesFault : Bool → ℕ → (ℕ → Option (Option (List ℕ))) 
 IsPliesFault true levels stands fault = IsLongestFault levels stands fault
 IsPliesFault false levels stands fault = IsLineFault levels stands fault
 
--- how a play that is not told is refused: 84, as a look-up is, or 83 with V3 for a plan that is not legal
-abbrev pub refusal_of : Unplayed FolderFault → FolderFault
-refusal_of unplayed.Memory = Memory
-refusal_of (unplayed.Refused fault) = fault
-refusal_of (unplayed.Illegal board) = Verify (sum board) (Refused (rank_of board) V3)
+-- how a play that is not told is refused: 84, as a look-up is, or 83 with this rule at a board where no legal pit is due
+abbrev pub refusal_of : Rule → Unplayed FolderFault → FolderFault
+refusal_of rule unplayed.Memory = Memory
+refusal_of rule (unplayed.Refused fault) = fault
+refusal_of rule (unplayed.Illegal board) = Verify (sum board) (Refused (rank_of board) rule)
 
--- the board whose plan is not legal, if there is one, is of a level that has a number
+-- the rule of such a board of the longest line, or of the best line
+abbrev pub rule_due : Bool → Rule
+rule_due true = V6
+rule_due false = V3
+
+-- that board, if there is one, is of a level that has a number
 abbrev pub IsLowAt : Unplayed FolderFault → Type 0
 IsLowAt (unplayed.Illegal board) = sum board ≤ HIGHEST_LEVEL
 IsLowAt fault = ⊤

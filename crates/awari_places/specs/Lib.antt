@@ -1,7 +1,6 @@
 pub mod Places
 pub mod Opening
 pub mod Faults
-pub mod Judging
 pub mod Runs
 pub mod Asked
 pub mod Lasting

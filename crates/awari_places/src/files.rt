@@ -13,11 +13,11 @@ use awari_table::{Entry, HIGHEST_LEVEL};
 /// [`open_levels`](crate::open_levels) found. A look-up reads six bytes, and is refused as
 /// [`entry`](crate::entry) is.
 #[derive(Drop)]
-pub(crate) struct Files<'a, F> {
+pub struct Files<'a, F> {
     /// The folder.
-    pub(crate) folder: &'a mut F,
-    /// How many levels there are.
-    pub(crate) levels: u8,
+    pub folder: &'a mut F,
+    /// How many levels there are, numbered from 0.
+    pub levels: u8,
     ghost few: { levels ≤ HIGHEST_LEVEL + 1 },
 }
 

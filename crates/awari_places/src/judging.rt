@@ -2,45 +2,39 @@
 
 ghost use Rattle.std.specs.Prelude.{◌≡◌, ◌<◌, ◌≤◌, ℕ, List, None, IfErr, IfOk, length, slice_index_or, sum};
 ghost use Rattle.awari_board.specs.Rules.{IsBoard};
-ghost use Rattle.awari_folder.specs.State.{Unchanged};
 ghost use Rattle.awari_folder.specs.declared.faults.FolderFault.TheVariants.{Verify};
+ghost use Rattle.awari_play.specs.Saying.{IsRefusedIn};
 ghost use Rattle.awari_rank.specs.Rank.{rank_of};
-ghost use Rattle.awari_table.specs.Certificate.{IsRight};
-ghost use Rattle.awari_table.specs.Images.{table_of};
+ghost use Rattle.awari_table.specs.Images.{entry_of, table_of};
 ghost use Rattle.awari_table.specs.Reached.{Reaches};
 ghost use Rattle.awari_table.specs.declared.TheConstants.{HIGHEST_LEVEL};
 ghost use Rattle.awari_table.specs.declared.images.Image.{Image};
 ghost use Rattle.awari_verify.specs.Sights.{Sees};
 ghost use Rattle.awari_verify.specs.declared.verdicts.VerifyFault.TheVariants.{Refused};
-ghost use Rattle.awari_places.specs.Faults.{IsJudgeFault, IsLookFault};
-ghost use Rattle.awari_places.specs.Places.{IsLevelOf, Says};
 
-use crate::entries::entry;
 use crate::files::Files;
 use awari_board::{Board, SIDE};
 use awari_folder::{Folder, FolderFault};
-use awari_play::reached;
+use awari_play::{Judged, Table, reached};
 use awari_rank::rank;
-use awari_table::Reached;
+use awari_table::{Entry, Reached};
 use awari_verify::{Rule, Seen, VerifyFault, first_broken_rule};
 
-/// What the files say of a board and of its moves. It is refused as 83 if the board breaks a rule by
-/// that.
-pub(crate) fn judged<F: Folder>(
-    folder: &mut F,
-    levels: u8,
-    board: &Board,
-) -> Result<Seen, FolderFault>
-    requires { IsLevelOf levels (sum board.now) }
-    ensures sees { (images : List Image) → Says (F.state folder.old).stands levels images → IfOk result (Sees (table_of images) board.now) }
-    ensures right { (images : List Image) → Says (F.state folder.old).stands levels images → IfOk result (λ _. IsRight (table_of images) board.now) }
-    ensures same { Unchanged (F.state folder.old) (F.state folder.new) }
-    ensures fault { IfErr result (IsJudgeFault levels (F.state folder.old).stands) }
-{
-    let seen = see(folder, levels, board)?;
-    match first_broken_rule(&seen) {
-        None => Ok(seen),
-        Some(rule) => Err(broken(board, rule)),
+impl<F: Folder> Judged for Files<'_, F> {
+    ghost use Rattle.awari_places.specs.Asked.{misjudged_by};
+    ghost use Rattle.awari_places.specs.Lasting.{misjudged_before};
+
+    ghost misjudges = { misjudged_by F.state };
+
+    ghost misjudging = { misjudged_before F.state };
+
+    /// The entry of a board. It is refused as 83 if the board breaks a rule by what the files say.
+    fn judged(&mut self, board: &Board) -> Result<Entry, FolderFault> {
+        let seen = see(self, board)?;
+        match first_broken_rule(&seen) {
+            None => Ok(seen.entry),
+            Some(rule) => Err(broken(board, rule)),
+        }
     }
 }
 
@@ -59,15 +53,16 @@ pub(crate) fn broken(board: &Board, rule: Rule) -> FolderFault
     }
 }
 
-/// What the files say of a board and of its moves.
-fn see<F: Folder>(folder: &mut F, levels: u8, board: &Board) -> Result<Seen, FolderFault>
-    requires { IsLevelOf levels (sum board.now) }
-    ensures sees { (images : List Image) → Says (F.state folder.old).stands levels images → IfOk result (Sees (table_of images) board.now) }
-    ensures same { Unchanged (F.state folder.old) (F.state folder.new) }
-    ensures look { IfErr result (IsLookFault levels (F.state folder.old).stands) }
+/// What a table says of a board and of its moves. Condition: the board's level is there.
+fn see<T: Table>(table: &mut T, board: &Board) -> Result<Seen, T::Fault>
+    requires { sum board.now < T.saying.levels table.old }
+    ensures entry { (images : List Image) → T.saying.says table.old images → IfOk result (λ seen. seen.entry ≡ entry_of images board.now) }
+    ensures sees { (images : List Image) → T.saying.says table.old images → IfOk result (Sees (table_of images) board.now) }
+    ensures keeps { T.saying.keeps table.old table.new }
+    ensures fault { IfErr result (IsRefusedIn T.saying table.old) }
 {
-    let entry = entry(folder, levels, board)?;
-    let moves = see_moves(folder, levels, board)?;
+    let entry = table.entry(board)?;
+    let moves = see_moves(table, board)?;
     Ok(Seen {
         stones: board.stones(),
         entry,
@@ -77,40 +72,30 @@ fn see<F: Folder>(folder: &mut F, levels: u8, board: &Board) -> Result<Seen, Fol
 }
 
 /// Where the moves of a board's pits lead, none for a pit that is not legal.
-fn see_moves<F: Folder>(
-    folder: &mut F,
-    levels: u8,
-    board: &Board,
-) -> Result<[Option<Reached>; 6], FolderFault>
-    requires { IsLevelOf levels (sum board.now) }
+fn see_moves<T: Table>(table: &mut T, board: &Board) -> Result<[Option<Reached>; 6], T::Fault>
+    requires { sum board.now < T.saying.levels table.old }
     ensures six { IfOk result (λ moves. length moves ≡ 6) }
-    ensures moves { (images : List Image) → Says (F.state folder.old).stands levels images
+    ensures moves { (images : List Image) → T.saying.says table.old images
         → IfOk result (λ moves. (x : ℕ) → x < 6 → Reaches (table_of images) board.now x (slice_index_or moves x None)) }
-    ensures same { Unchanged (F.state folder.old) (F.state folder.new) }
-    ensures look { IfErr result (IsLookFault levels (F.state folder.old).stands) }
+    ensures keeps { T.saying.keeps table.old table.new }
+    ensures fault { IfErr result (IsRefusedIn T.saying table.old) }
 {
     let mut moves = [None; 6];
     for pit in 0..SIDE {
-        moves[pit as usize] = see_move(folder, levels, board, pit)?;
+        moves[pit as usize] = see_move(table, board, pit)?;
     }
     Ok(moves)
 }
 
 /// Where the move of a pit leads, if the pit is legal.
-fn see_move<F: Folder>(
-    folder: &mut F,
-    levels: u8,
-    board: &Board,
-    pit: u8,
-) -> Result<Option<Reached>, FolderFault>
-    requires { IsLevelOf levels (sum board.now) }
-    ensures reached { (images : List Image) → Says (F.state folder.old).stands levels images → IfOk result (Reaches (table_of images) board.now pit) }
-    ensures same { Unchanged (F.state folder.old) (F.state folder.new) }
-    ensures look { IfErr result (IsLookFault levels (F.state folder.old).stands) }
+fn see_move<T: Table>(table: &mut T, board: &Board, pit: u8) -> Result<Option<Reached>, T::Fault>
+    requires { sum board.now < T.saying.levels table.old }
+    ensures reached { (images : List Image) → T.saying.says table.old images → IfOk result (Reaches (table_of images) board.now pit) }
+    ensures keeps { T.saying.keeps table.old table.new }
+    ensures fault { IfErr result (IsRefusedIn T.saying table.old) }
 {
     if !board.legal(pit) {
         return Ok(None);
     }
-    let mut files = Files { folder, levels };
-    Ok(Some(reached(&mut files, board, pit)?))
+    Ok(Some(reached(table, board, pit)?))
 }

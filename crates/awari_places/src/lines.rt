@@ -1,12 +1,13 @@
-//! Play by the plans of both sides, as the files say them, up to the first outcome.
+//! Play by what the files say: by the plans of both sides, or with one that holds out.
 
 ghost use Rattle.std.specs.Prelude.{◌≡◌, List, IfErr, IfOk, sum};
 ghost use Rattle.awari_folder.specs.State.{Unchanged};
 ghost use Rattle.awari_game.specs.Plays.{IsPlay, Standing, start};
 ghost use Rattle.awari_play.specs.BestLine.{IsBestLine};
+ghost use Rattle.awari_play.specs.LongestLine.{IsLongestLine};
 ghost use Rattle.awari_table.specs.Images.{table_of};
 ghost use Rattle.awari_table.specs.declared.images.Image.{Image};
-ghost use Rattle.awari_places.specs.Faults.{IsLineFault, IsLowAt, refusal_of};
+ghost use Rattle.awari_places.specs.Faults.{IsLineFault, IsLongestFault, IsLowAt, refusal_of};
 ghost use Rattle.awari_places.specs.Places.{IsLevelOf, Says};
 
 use crate::files::Files;
@@ -14,7 +15,7 @@ use crate::judging::broken;
 use crate::opening::Opened;
 use awari_board::Board;
 use awari_folder::{Folder, FolderFault};
-use awari_play::{Line, Unplayed, best_line_by};
+use awari_play::{Line, Unplayed, best_line_by, longest_line_by};
 use awari_verify::Rule;
 use std::alloc::Global;
 
@@ -42,18 +43,44 @@ pub fn best_line<F: Folder>(
     };
     match best_line_by(alloc, &mut files, board, opened.limit) {
         Ok(line) => Ok(line),
-        Err(unplayed) => Err(refusal_of(unplayed)),
+        Err(unplayed) => Err(refusal_of(unplayed, Rule::V3)),
     }
 }
 
-/// The refusal of a play that is not told by files: a plan that is not legal breaks V3.
-pub(crate) fn refusal_of(unplayed: Unplayed<FolderFault>) -> FolderFault
+/// The pits of the play from a board in which the side that it favours follows the plans that the files
+/// say, and the other side holds out as long as it can. Condition: the board's level is one of the
+/// `levels` that [`open_levels`](crate::open_levels) found. It always returns, whatever the files say.
+///
+/// Each board of the play is judged by the rules V1 to V6. It is refused as 83 if one breaks a rule, and
+/// as [`entry`](crate::entry) is, and as 84 if memory runs out. It takes memory for the moves, a byte
+/// each, and for names.
+pub fn longest_line<F: Folder>(
+    alloc: Global,
+    folder: &mut F,
+    levels: u8,
+    board: Board,
+) -> Result<Vec<u8>, FolderFault>
+    requires { IsLevelOf levels (sum board) }
+    ensures line { (images : List Image) → Says (F.state folder.old).stands levels images → IfOk result (λ moves. IsLongestLine (table_of images) board moves.items) }
+    ensures play { IfOk result (λ moves. (last : Standing) × IsPlay (start board) moves.items last) }
+    ensures same { Unchanged (F.state folder.old) (F.state folder.new) }
+    ensures fault { IfErr result (IsLongestFault levels (F.state folder.old).stands) }
+{
+    let mut files = Files { folder, levels };
+    match longest_line_by(alloc, &mut files, board) {
+        Ok(moves) => Ok(moves),
+        Err(unplayed) => Err(refusal_of(unplayed, Rule::V6)),
+    }
+}
+
+/// The refusal of a play that is not told by files: a board where no legal pit is due breaks this rule.
+pub(crate) fn refusal_of(unplayed: Unplayed<FolderFault>, rule: Rule) -> FolderFault
     requires { IsLowAt unplayed }
-    ensures { result ≡ refusal_of unplayed }
+    ensures { result ≡ refusal_of rule unplayed }
 {
     match unplayed {
         Unplayed::Memory => FolderFault::Memory,
         Unplayed::Refused { fault } => fault,
-        Unplayed::Illegal { board } => broken(&board, Rule::V3),
+        Unplayed::Illegal { board } => broken(&board, rule),
     }
 }

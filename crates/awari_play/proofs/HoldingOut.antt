@@ -1,6 +1,6 @@
 -- Play in which one side holds out: each ply leaves one ply less, or captures with the last.
-use Rattle.std.proofs.Common.{◌≡◌, ◌≢◌, ℕ, ◌+◌, ◌<◌, ◌≤◌, ◌⊎◌, ◌↔◌, nat_eq, IsTrue, Bool, true, false, not, List, [], ◌∷◌, ◌++◌, length, sum, take, ℤ, pos, ◌-ℤ◌, ◌≤ℤ◌, ◌<ℤ◌, Some, refl, sym, ap, ◌∙◌, subst, arith, inl, inr, length-append}
-use Rattle.std.specs.Prelude.{int_lt}
+use Rattle.std.proofs.Common.{◌≡◌, ◌≢◌, ℕ, ◌+◌, ◌<◌, ◌≤◌, ◌⊎◌, ◌↔◌, nat_eq, IsTrue, Bool, true, false, not, List, [], ◌∷◌, ◌++◌, length, sum, take, ℤ, pos, ◌-ℤ◌, ◌≤ℤ◌, ◌<ℤ◌, Option, None, Some, Result, Ok, Err, refl, sym, ap, ◌∙◌, subst, arith, inl, inr, length-append}
+use Rattle.std.specs.Prelude.{int_lt, IfOk, IfSome, IsSome, IsSomeAnd}
 use Rattle.std.proofs.lemmas.Bool.{cases_lt}
 use Rattle.std.proofs.lemmas.Bool.Decides.{nat_tests}
 use Rattle.std.proofs.lemmas.Int.{ints}
@@ -9,15 +9,18 @@ use Rattle.awari_board.specs.Rules.{IsBoard, IsEnd, IsEnded, IsLegal, IsMove, ca
 use Rattle.awari_game.specs.Plays.{Standing, start, after, IsPlay, Follows}
 use Rattle.awari_game.specs.Shown.{Shows}
 use Rattle.awari_table.specs.Certificate.{Table, plies, MovesIn, MovesNoLater, IsRight}
+use Rattle.awari_table.specs.Images.{entry_of, table_of}
+use Rattle.awari_table.specs.declared.images.Entry.{Entry}
+use Rattle.awari_table.specs.declared.images.Image.{Image}
 use Rattle.awari_table.specs.declared.rules.Reached.{Reached}
 use Rattle.awari_table.specs.Reached.{Reaches}
 use Rattle.awari_table.proofs.CertificateLemmas.{plies_cases}
 use Rattle.awari_theory.proofs.OlderLemmas.{DistancesFall-least}
-use Rattle.awari_theory.proofs.Moves.{stones_kept, next_is_board, move_of}
+use Rattle.awari_theory.proofs.Moves.{stones_kept, move_of}
 use Rattle.awari_theory.proofs.Sides.{quiet_more, quiet_none}
 use Rattle.awari_play.proofs.Following.{follows_more, one_more, one_standing}
 use Rattle.awari_play.proofs.Lowered.{one_move}
-use Rattle.awari_play.specs.Holding.{TakesPlies}
+use Rattle.awari_play.specs.Holding.{IsFar, TakesPlies}
 use Rattle.awari_play.specs.LongestLine.{HoldsLongest, HoldsOut, IsDuePit, IsLongestLine, favours_mover}
 
 -- ---- the pit that holds out longest
@@ -214,7 +217,6 @@ holds_more t side (y ∷ xs) x from s play is holds = (holds.0, holds_more t sid
 pub record IsHeld (t : Table) (levels k : ℕ) (board : List ℕ) (seen : Standing) (moves : List ℕ) : Type 0 where
   pub shows : Shows seen board moves
   pub size : length moves ≡ k
-  pub whole : IsBoard seen.board
   pub known : sum seen.board < levels
   pub favoured : Follows t.plan (favours_mover t board) (start board) moves
   pub other : HoldsOut t (not (favours_mover t board)) (start board) moves
@@ -233,15 +235,14 @@ good_start t board r far = record {
   lost = first_lost (t.value board) (λ even. omega (arith, r.distances.even even, far));
 }
 
-pub held-start : (t : Table) (levels : ℕ) (board : List ℕ) (seen : Standing) → IsBoard board → sum board < levels → IsRight t board → Shows seen board [] → IsHeld t levels 0 board seen []
-held-start t levels board seen is_board low r shows =
+pub held-start : (t : Table) (levels : ℕ) (board : List ℕ) (seen : Standing) → sum board < levels → IsRight t board → Shows seen board [] → IsHeld t levels 0 board seen []
+held-start t levels board seen low r shows =
     let at : shows.standing ≡ start board = shows.play in
     let there : seen.board ≡ board = shows.shown.board ∙ ap (λ (s : Standing). s.board) at in
     let opened : IsOpen t (favours_mover t board) (t.dist board) 0 (start board) = record { quiet = refl; left = omega arith; good = good_start t board r } in
     record {
       shows = shows;
       size = refl;
-      whole = subst IsBoard (sym there) is_board;
       known = subst (λ b. sum b < levels) (sym there) low;
       favoured = tt;
       other = tt;
@@ -256,9 +257,9 @@ held-far t levels k board seen moves near held =
     let left = still.left in
     subst (λ b. 1 ≤ t.dist b) (sym held.shows.shown.board) (omega (arith, left, near))
 
-pub held-more : (t : Table) (levels k : ℕ) (board : List ℕ) (seen later : Standing) (moves : List ℕ) (x : ℕ) → k < t.dist board → IsRight t seen.board
+pub held-more : (t : Table) (levels k : ℕ) (board : List ℕ) (seen later : Standing) (moves : List ℕ) (x : ℕ) → k < t.dist board → IsBoard seen.board → IsRight t seen.board
     → IsDuePit t seen.board x → IsHeld t levels k board seen moves → Shows later board (moves ++ x ∷ []) → IsHeld t levels (k + 1) board later (moves ++ x ∷ [])
-held-more t levels k board seen later moves x near r due held shows =
+held-more t levels k board seen later moves x near whole r due held shows =
     let s = held.shows.standing in
     let at : shows.standing ≡ after s x = one_more moves x (start board) s shows.standing held.shows.play shows.play in
     let there : seen.board ≡ s.board = held.shows.shown.board in
@@ -268,13 +269,12 @@ held-more t levels k board seen later moves x near r due held shows =
     let good = still.good (omega (arith, near)) in
     let left : later.board ≡ next_board seen.board x = shows.shown.board ∙ ap (λ (v : Standing). v.board) at ∙ ap (λ b. next_board b x) (sym there) in
     let move : IsMove seen.board x (captured seen.board x) (next_board seen.board x) = move_of seen.board x due.legal in
-    let kept = stones_kept seen.board x _ _ held.whole move in
+    let kept = stones_kept seen.board x _ _ whole move in
     let fewer : sum later.board ≡ sum (next_board seen.board x) = ap sum left in
     let more = length-append moves (x ∷ []) in
     record {
       shows = shows;
       size = omega (arith, more, held.size);
-      whole = subst IsBoard (sym left) (next_is_board seen.board x _ _ held.whole move);
       known = omega (arith, held.known, kept, fewer);
       favoured = follows_more t.plan _ moves x (start board) s held.shows.play (λ turn. mine.favoured (good.won turn)) held.favoured;
       other = holds_more t _ moves x (start board) s held.shows.play (λ turn. mine.other (good.lost turn)) held.other;
@@ -322,3 +322,56 @@ held-end t levels k board seen moves all r held = record {
         let far = (DistancesFall-least t _ right.distances).uneven (λ stuck. stuck x legal) (good_uneven t _ _ (still.good some)) in
         let left = still.left in
         omega (arith, far, left, all)
+
+-- The same with the entry of the board, which is right.
+pub record IsHeldBy (images : List Image) (levels k : ℕ) (board : List ℕ) (seen : Standing) (e : Entry) (moves : List ℕ) : Type 0 where
+  pub held : IsHeld (table_of images) levels k board seen moves
+  pub right : IsRight (table_of images) seen.board
+  pub entry : e ≡ entry_of images seen.board
+
+pub by-start : (images : List Image) (levels : ℕ) (board : List ℕ) (seen : Standing) (e : Entry) → sum board < levels → IsRight (table_of images) board → e ≡ entry_of images board → Shows seen board []
+    → IsHeldBy images levels 0 board seen e []
+by-start images levels board seen e low r same shows =
+    let there : seen.board ≡ board = shows.shown.board ∙ ap (λ (s : Standing). s.board) shows.play in
+    record { held = held-start (table_of images) levels board seen low r shows; right = subst (IsRight (table_of images)) (sym there) r; entry = same ∙ sym (ap (entry_of images) there) }
+
+-- a board on the way is left by a ply
+pub by-far : (images : List Image) (levels k : ℕ) (board : List ℕ) (seen : Standing) (e : Entry) (moves : List ℕ) → k < (table_of images).dist board → IsHeldBy images levels k board seen e moves → IsFar images seen.board e
+by-far images levels k board seen e moves near by = record { entry = by.entry; right = by.right; far = held-far (table_of images) levels k board seen moves near by.held }
+
+pub by-more : (images : List Image) (levels k : ℕ) (board : List ℕ) (seen later : Standing) (e f : Entry) (moves : List ℕ) (x : ℕ) → k < (table_of images).dist board → IsBoard seen.board → IsDuePit (table_of images) seen.board x
+    → IsHeldBy images levels k board seen e moves → Shows later board (moves ++ x ∷ []) → IsRight (table_of images) later.board → f ≡ entry_of images later.board → IsHeldBy images levels (k + 1) board later f (moves ++ x ∷ [])
+by-more images levels k board seen later e f moves x near whole due by shows r same =
+    record { held = held-more (table_of images) levels k board seen later moves x near whole by.right due by.held shows; right = r; entry = same }
+
+pub by-end : (images : List Image) (levels k : ℕ) (board : List ℕ) (seen : Standing) (e : Entry) (moves : List ℕ) → k ≡ (table_of images).dist board → IsHeldBy images levels k board seen e moves → IsLongestLine (table_of images) board moves
+by-end images levels k board seen e moves all by = held-end (table_of images) levels k board seen moves all by.right by.held
+
+-- ---- the pit by an entry
+
+-- the plan of a board that favours its mover
+pub far_planned : (images : List Image) (p : List ℕ) (e : Entry) → IsFar images p e → pos 0 <ℤ e.value → IsSomeAnd e.plan (IsDuePit (table_of images) p)
+far_planned images p e is up =
+    let t = table_of images in
+    let (x, plan, legal) = is.right.has_plan (far_open t p is.right is.far) in
+    let won : pos 0 <ℤ t.value p = subst (λ (f : Entry). pos 0 <ℤ f.value) is.entry up in
+    let due : IsDuePit t p x = record { legal = legal; favoured = λ same. plan; other = λ down. absurd (omega (arith, ints, won, down)) } in
+    subst (λ o. IsSomeAnd o (IsDuePit t p)) (sym (ap (λ (f : Entry). f.plan) is.entry ∙ plan)) due
+
+-- and of any other that which holds out longest
+pub far_stubborn : (images : List Image) (p : List ℕ) (e : Entry) (r : Option ℕ) → IsFar images p e → (pos 0 <ℤ e.value → ⊥)
+    → (MovesNoLater (table_of images) p e.dist → IfSome r (HoldsLongest (table_of images) p)) → (MovesIn (table_of images) p e.dist → IsSome r) → IsSomeAnd r (IsDuePit (table_of images) p)
+far_stubborn images p e r is low holds some =
+    let t = table_of images in
+    let lost = far_lost t p is.right is.far (λ up. low (subst (λ (f : Entry). pos 0 <ℤ f.value) (sym is.entry) up)) in
+    let dist : t.dist p ≡ e.dist = sym (ap (λ (f : Entry). f.dist) is.entry) in
+    both r (holds (subst (MovesNoLater t p) dist lost.2)) (some (subst (MovesIn t p) dist lost.1)) lost.0
+  where
+    both : (r : Option ℕ) → IfSome r (HoldsLongest (table_of images) p) → IsSome r → (table_of images).value p <ℤ pos 0 → IsSomeAnd r (IsDuePit (table_of images) p)
+    both None h is down = absurd cc
+    both (Some x) h is down = record { legal = h.move.legal; favoured = λ up. absurd (omega (arith, ints, up, down)); other = λ same. h }
+
+pub far_stubborn_ok : {F : Type 0} (images : List Image) (p : List ℕ) (e : Entry) (r : Result (Option ℕ) F) → IsFar images p e → (pos 0 <ℤ e.value → ⊥)
+    → (MovesNoLater (table_of images) p e.dist → IfOk r (λ o. IfSome o (HoldsLongest (table_of images) p))) → (MovesIn (table_of images) p e.dist → IfOk r IsSome) → IfOk r (λ o. IsSomeAnd o (IsDuePit (table_of images) p))
+far_stubborn_ok images p e (Ok r) is low holds some = far_stubborn images p e r is low holds some
+far_stubborn_ok images p e (Err f) is low holds some = tt

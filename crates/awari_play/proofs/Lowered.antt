@@ -9,6 +9,7 @@ use Rattle.awari_table.proofs.CertificateLemmas.{plies_some, plies_cases}
 use Rattle.awari_table.specs.Reached.{Reaches}
 use Rattle.awari_table.specs.declared.rules.Reached.{Reached}
 use Rattle.awari_play.specs.Lowering.{IsAbove, IsNearest, IsFarthest, IsByMoves, IsBelow, IsBelowTo, farther_by, IsNearerBy}
+use Rattle.awari_theory.proofs.Sides.{value_cases}
 
 either_max : (a b : ℕ) → (max a b ≡ a) ⊎ (max a b ≡ b)
 either_max a b = elim (cases_lt a b) [ inl lt ↦ inr (omega (arith, lt)) | inr ge ↦ inl (omega (arith, ge)) ]
@@ -29,9 +30,6 @@ plies_held c d e near most few same = elim (plies_cases c d) [
   | inl taken ↦ omega (arith, taken.1, plies_some c e)
   | inr quiet ↦ elim (plies_cases c e) [ inl other ↦ absurd (omega (arith, quiet.0, other.0)) | inr still ↦ omega (arith, quiet.1, still.1, same, few) ]
 ]
-
-sign_cases : (v : ℤ) → (pos 0 <ℤ v) ⊎ ((v <ℤ pos 0) ⊎ (v ≡ pos 0))
-sign_cases v = grind (arith, ints)
 
 module _ (t : Table) (p : List ℕ) where
   -- a pit has one move
@@ -191,7 +189,7 @@ module _ (t : Table) (p : List ℕ) where
 
   -- a distance that is beyond the near ones doesn't fall below them
   pub stays_beyond : (near k : ℕ) → IsBelowTo near t p → near < t.dist p → IsByMoves t p k → k < t.dist p → near ≤ k
-  stays_beyond near k b far by less = elim (sign_cases (t.value p)) [
+  stays_beyond near k b far by less = elim (value_cases (t.value p)) [
     | inl up ↦ elim (by.won up).1 [
       | inl same ↦ absurd (omega (arith, same, less))
       | inr (x, c, q, move, gain, takes) ↦ (let first = b.won up x c q move gain in omega (arith, first, takes, far))

@@ -21,6 +21,7 @@ use Rattle.awari_play.specs.Planning.{SameSettled, with_top}
 use Rattle.awari_play.proofs.Planned.{IsNextImage}
 use Rattle.awari_play.proofs.Serving.{lowest_own, lowest_ended, lowest_there, lowest_serves}
 use Rattle.awari_play.proofs.Lowered.{IsSharp, sharp, sharp_alike, above_keeps, above_lowers, above_falling, below_any, below_near, below_by_moves, below_keeps, below_falls, stays_beyond}
+use Rattle.awari_theory.proofs.Sides.{sign_cases}
 
 -- what two images say of a board is related as their entries are
 related : (R : Entry → Entry → Type 0) → ((e : Entry) → R e e) → (shelf : List Image) (a b : Image)
@@ -251,9 +252,6 @@ above_image shelf image old p is stones =
     = related (λ x y. x ≡ y) (λ e. refl) shelf image (image_of shelf image.entries) (λ k. refl) in
     above_keeps t u (λ q. ap (λ (e : Entry). e.value) (same q)) p (λ q. omega (arith, ap (λ (e : Entry). e.dist) (same q))) (ap (λ (e : Entry). e.dist) (same p))
     (above_falling t p (old.right p is (stones ∙ sym old.next)))
-
-sign_cases : (v : ℤ) → (v ≤ℤ pos 0) ⊎ (pos 0 <ℤ v)
-sign_cases v = grind (arith, ints)
 
 module _ (shelf : List Image) (image last : Image) (lowered : List Entry) (old : ConsistentBy DistancesFall shelf image) (nearer : NoFarther image.entries lowered) (above : AreAbove shelf lowered)
     (below : AreBelow shelf lowered) (same : SameSettled lowered last.entries) (finished : IsNextImage shelf last) where

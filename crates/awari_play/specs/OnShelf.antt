@@ -20,6 +20,7 @@ shelf_lasts = record {
   on = λ first then last one two. two ∙ one;
   levels = λ old new kept. ap length kept;
   says = λ old new images kept says. says ∙ sym kept;
+  said = λ old new images kept says. says ∙ kept;
   refuses = λ old new board fault kept is. is;
   all = λ s images says. ap length says;
 }

@@ -6,7 +6,7 @@
 //! distances down to the least ones first. None of it needs what builds a level.
 //!
 //! These go by a shelf. By any other [`Table`], whose boards may be refused, go [`best_line_by`],
-//! [`told_plies`] and [`weigh_by`]: those of a shelf are these, with no refusal.
+//! [`longest_line_by`], [`line_plies_by`] and [`weigh_by`]: those of a shelf are these, with no refusal.
 //!
 //! The moves of a line and its outcome, as a test expects them, in
 //! `crates/awari_owner_tests/src/best_lines.rt`:
@@ -38,11 +38,11 @@ mod worths;
 
 pub use laws::{lowest_levels_are_one, lowest_plans_stay};
 pub use lines::{Line, LineFault, best_line, best_line_by, play_pit};
-pub use longest::longest_line;
-pub use lookups::{Table, Unplayed};
+pub use longest::{longest_line, longest_line_by};
+pub use lookups::{Judged, Table, Unplayed};
 pub use lowering::least;
 pub use plans::planned_image;
-pub use plies::{LinePlies, Ply, Repeat, line_plies, told_plies};
+pub use plies::{LinePlies, Ply, Repeat, line_plies, line_plies_by};
 pub use replies::Replies;
 pub use weighing::{Weighed, WeighedMove, weigh, weigh_by};
 pub use worths::{MoveWorth, move_worths, reached, worth_of};

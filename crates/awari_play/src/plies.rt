@@ -5,16 +5,16 @@ ghost use Rattle.std.specs.Ordering.{int_eq};
 ghost use Rattle.awari_board.specs.Rules.{IsBoard, IsLegal};
 ghost use Rattle.awari_game.specs.Plays.{IsPlay, Standing, start};
 ghost use Rattle.awari_game.specs.Shown.{Shows};
-ghost use Rattle.awari_table.specs.Images.{entry_of};
+ghost use Rattle.awari_table.specs.Images.{entry_of, greatest_limit};
 ghost use Rattle.awari_play.specs.LineFault.{IsDue};
 ghost use Rattle.awari_table.specs.declared.images.Image.{Image};
 ghost use Rattle.awari_play.specs.Plies.{AreLinePlies, IsLineBy, IsRepeat, IsRepeatIf, boards_in, plies_of, ply_of};
 ghost use Rattle.awari_play.specs.Saying.{IsRefusedIn};
-ghost use Rattle.awari_play.specs.Unplayed.{IsUntold};
+ghost use Rattle.awari_play.specs.Unplayed.{IsUnlined, IsUntold};
 
-use crate::lines::{LineFault, best_line};
-use crate::longest::longest_line;
-use crate::lookups::{Table, Unplayed};
+use crate::lines::{LineFault, best_line_by};
+use crate::longest::longest_line_by;
+use crate::lookups::{Judged, Table, Unplayed};
 use awari_board::Board;
 use awari_game::Game;
 use awari_table::{Entry, Shelf};
@@ -58,7 +58,7 @@ pub struct LinePlies {
 
 /// The plies of the best line of play from the board by the shelf's limit, or of the longest line.
 ///
-/// It is refused as [`best_line`] is: as 56 `NotYet` if the board has at least as many stones as there
+/// It is refused as [`best_line`](crate::best_line) is: as 56 `NotYet` if the board has at least as many stones as there
 /// are levels, else as 57 `Memory` if memory runs out. It takes memory for the plies.
 pub fn line_plies(
     alloc: Global,
@@ -71,9 +71,12 @@ pub fn line_plies(
     ensures not_yet { (result ≡ Err (LineFault.NotYet (length shelf.now))) ↔ (length shelf.now ≤ sum board) }
     ensures fault { IfErr result (IsDue (length shelf.now) (sum board)) }
 {
-    let moves = moves_of(alloc, shelf, board, longest)?;
+    let levels = shelf.levels();
+    if board.stones() >= levels {
+        return Err(LineFault::NotYet { levels });
+    }
     let mut table = shelf;
-    match told_plies(alloc, &mut table, board, moves.as_slice()) {
+    match line_plies_by(alloc, &mut table, board, shelf.limit(), longest) {
         Ok(plies) => Ok(plies),
         Err(Unplayed::Memory) => Err(LineFault::Memory),
         Err(Unplayed::Refused { .. }) => unreachable!(),
@@ -81,23 +84,51 @@ pub fn line_plies(
     }
 }
 
+/// The same by what a table says, with the best line by this limit. Condition: the board's level is there.
+///
+/// It is refused as [`best_line_by`] or [`longest_line_by`] is. It takes memory for the plies.
+pub fn line_plies_by<T: Judged>(
+    alloc: Global,
+    table: &mut T,
+    board: Board,
+    limit: u32,
+    longest: bool,
+) -> Result<LinePlies, Unplayed<T::Fault>>
+    requires { sum board < T.saying.levels table.old }
+    ensures plies { (images : List Image) → T.saying.says table.old images → limit ≡ greatest_limit images
+        → IfOk result (λ found. AreLinePlies longest images board found.plies.items found.repeat) }
+    ensures within { IfOk result (λ found. IfSome found.repeat (λ r. r.again ≤ length found.plies.items)) }
+    ensures keeps { T.saying.keeps table.old table.new }
+    ensures fault { IfErr result (IsUnlined longest T.saying T.misjudges table.old) }
+{
+    let moves = moves_of(alloc, table, board, limit, longest)?;
+    told_plies(alloc, table, board, moves.as_slice())
+}
+
 /// The pits of the line of play from a board, by the plans of both sides or with one that holds out.
-fn moves_of(alloc: Global, shelf: &Shelf, board: Board, longest: bool) -> Result<Vec<u8>, LineFault>
-    ensures known { IfOk result (λ _. sum board < length shelf.now) }
-    ensures not_yet { (result ≡ Err (LineFault.NotYet (length shelf.now))) ↔ (length shelf.now ≤ sum board) }
-    ensures fault { IfErr result (IsDue (length shelf.now) (sum board)) }
-    ensures line { IfOk result (λ moves. IsLineBy longest shelf.now board moves.items) }
+fn moves_of<T: Judged>(
+    alloc: Global,
+    table: &mut T,
+    board: Board,
+    limit: u32,
+    longest: bool,
+) -> Result<Vec<u8>, Unplayed<T::Fault>>
+    requires { sum board < T.saying.levels table.old }
+    ensures line { (images : List Image) → T.saying.says table.old images → limit ≡ greatest_limit images → IfOk result (λ moves. IsLineBy longest images board moves.items) }
+    ensures play { IfOk result (λ moves. (last : Standing) × IsPlay (start board) moves.items last) }
+    ensures keeps { T.saying.keeps table.old table.new }
+    ensures fault { IfErr result (IsUnlined longest T.saying T.misjudges table.old) }
 {
     if longest {
-        return longest_line(alloc, shelf, board);
+        return longest_line_by(alloc, table, board);
     }
-    let line = best_line(alloc, shelf, board, shelf.limit())?;
+    let line = best_line_by(alloc, table, board, limit)?;
     Ok(line.moves)
 }
 
 /// The plies of a play from a board by a table, and where it comes back to a board if the value is 0.
 /// Conditions: the board's level is there, and the moves are a play. It takes memory for the plies.
-pub fn told_plies<T: Table>(
+fn told_plies<T: Table>(
     alloc: Global,
     table: &mut T,
     board: Board,

@@ -4,6 +4,7 @@ use Rattle.std.proofs.lemmas.Bool.Decides.{Decides-below_and, Decides-eqb}
 use Rattle.awari_rank.specs.Tuples.{total, ways, fewer}
 use Rattle.awari_rank.specs.declared.counts.TheConstants.{FEWER}
 use Rattle.awari_rank.proofs.Counting.{total-zero, total-add-one, ways-suc, fewer-zero}
+use Rattle.std.proofs.lemmas.Bool.{eqb-true}
 
 fewer-one : (n : ℕ) → fewer 1 n ≡ n
 unfolding total
@@ -38,20 +39,17 @@ rule_ok : all_below (λ i. all_below (λ n. eqb (at i (suc n)) (at i n + at (suc
 unfolding all_below at
 rule_ok = refl
 
-tested : (a b : ℕ) → eqb a b ≡ true → a ≡ b
-tested a b = (Decides-eqb a b).0
-
 edge : (i : ℕ) → i < 11 → at i 0 ≡ 0
-edge i h = tested (at i 0) 0 (below_all (λ i. eqb (at i 0) 0) 11 edge_ok i h)
+edge i h = eqb-true (at i 0) 0 (below_all (λ i. eqb (at i 0) 0) 11 edge_ok i h)
 
 bottom : (n : ℕ) → n < 26 → at 10 n ≡ n
-bottom n h = tested (at 10 n) n (below_all (λ n. eqb (at 10 n) n) 26 bottom_ok n h)
+bottom n h = eqb-true (at 10 n) n (below_all (λ n. eqb (at 10 n) n) 26 bottom_ok n h)
 
 rule : (i n : ℕ) → i < 10 → n < 25 → at i (suc n) ≡ at i n + at (suc i) (suc n)
 rule i n in_rows in_row =
     let p : ℕ → Bool = λ n. eqb (at i (suc n)) (at i n + at (suc i) (suc n)) in
     let rows : ℕ → Bool = λ i. all_below (λ n. eqb (at i (suc n)) (at i n + at (suc i) (suc n))) 25 in
-    tested (at i (suc n)) (at i n + at (suc i) (suc n)) (below_all p 25 (below_all rows 10 rule_ok i in_rows) n in_row)
+    eqb-true (at i (suc n)) (at i n + at (suc i) (suc n)) (below_all p 25 (below_all rows 10 rule_ok i in_rows) n in_row)
 
 -- a row from the one below it
 row : (i k : ℕ) → i < 10 → ((n : ℕ) → n < 26 → at (suc i) n ≡ fewer (suc k) n) → (n : ℕ) → n < 26 → at i n ≡ fewer (suc (suc k)) n

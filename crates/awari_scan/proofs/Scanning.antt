@@ -6,7 +6,7 @@ use Rattle.std.proofs.lemmas.Int.{ints}
 use Rattle.std.proofs.lemmas.List.{get_or_default}
 use Rattle.awari_board.specs.Rules.{IsBoard, IsEnded, IsLegal, IsMove, captured, next_board}
 use Rattle.awari_board.specs.Tests.{is_legal}
-use Rattle.awari_board.proofs.Legal.{legal_is}
+use Rattle.awari_board.proofs.Legal.{legal_is, below_six}
 use Rattle.awari_block.specs.Pits.{pits}
 use Rattle.awari_block.specs.Plain as plain
 use Rattle.awari_block.specs.Plain.{is_left, left_of, Captures, IsBest, Knows, IsPlain}
@@ -22,7 +22,7 @@ use Rattle.awari_rank.proofs.Reaching.{board_reached}
 use Rattle.awari_block.proofs.Freshness.{fresh_of_block}
 use Rattle.awari_block.specs.Blocks.{cell_in, no_cell, IsBlock}
 use Rattle.awari_block.specs.Part.{Part, AreFresh, part_of, settled_by}
-use Rattle.awari_block.proofs.SixPits.{below_six, count_by-none, count_by-some}
+use Rattle.awari_block.proofs.SixPits.{count_by-none, count_by-some}
 use Rattle.awari_block.proofs.BlockLemmas.{cell_in-other, cell_in-same, one_if}
 use Rattle.awari_block.proofs.Legality.{quiet_counted}
 

@@ -62,7 +62,7 @@ IsRight-local t u p here next r = record {
 }
 
 -- the levels below n say all of boards with fewer than n stones
-entry_of-take : (levels : List Image) (n : ℕ) (p : List ℕ) → sum p < n → entry_of (take n levels) p ≡ entry_of levels p
+pub entry_of-take : (levels : List Image) (n : ℕ) (p : List ℕ) → sum p < n → entry_of (take n levels) p ≡ entry_of levels p
 unfolding entry_of
 entry_of-take levels n p low = rw (get_or-take n levels (sum p) no_image low) refl
 

@@ -7,10 +7,11 @@ use Rattle.awari_game.specs.Plays.{Standing, start, after, IsPlay, IsOutcome, Fo
 use Rattle.awari_table.specs.Certificate.{Table}
 use Rattle.awari_theory.specs.Older.{IsCertificate}
 use Rattle.awari_theory.specs.Secures.{Comes}
-use Rattle.awari_theory.proofs.Moves.{stones_kept, next_is_board, move_of}
+use Rattle.awari_theory.proofs.Moves.{stones_kept, move_of}
 use Rattle.awari_theory.proofs.Sides.{quiet_none}
 use Rattle.awari_theory.proofs.Keeps.{IsCovered, covered_next, secures}
 use Rattle.awari_theory.proofs.Forces.{ended_or_planned, is_end}
+use Rattle.awari_board.proofs.Keeping.{IsBoard-next}
 
 -- the rest of a play by the plans, from a standing to an outcome
 abbrev Rest : Table → ℕ → Standing → Type 0
@@ -99,7 +100,7 @@ passes most (suc n) s to (x ∷ xs) board room play long =
           let kept = stones_kept s.board x (captured s.board x) (next_board s.board x) board move in
           let room_then = subst (λ m. m * (most + 2) + (most + 1) ≤ suc n + s.quiet) (sym kept) room in
           passes_later most s x xs play.0
-          (passes most n (after s x) to xs (next_is_board s.board x _ _ board move)
+          (passes most n (after s x) to xs (IsBoard-next s.board x _ _ board move)
           (nearer most (sum (next_board s.board x)) (captured s.board x) s.quiet n low room_then) play.1 (omega arith))
     ]
 

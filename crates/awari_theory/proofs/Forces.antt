@@ -5,8 +5,9 @@ use Rattle.awari_board.specs.Rules.{IsMove, IsLegal, IsEnd, IsEnded, captured, n
 use Rattle.awari_table.specs.Certificate.{Table, IsRightBy}
 use Rattle.awari_theory.specs.Older.{DistancesFall, IsCertificate}
 use Rattle.awari_theory.specs.Worth.{Forced}
-use Rattle.awari_theory.proofs.Moves.{stones_kept, next_is_board, move_of}
+use Rattle.awari_theory.proofs.Moves.{stones_kept, move_of}
 use Rattle.awari_theory.proofs.Keeps.{IsCovered}
+use Rattle.awari_board.proofs.Keeping.{IsBoard-next}
 
 -- a worth that is the table's value, of all covered boards with fewer stones than `top`
 pub record IsValue (t : Table) (levels top : ℕ) (worth : List ℕ → ℤ → Type 0) : Type 0 where
@@ -46,7 +47,7 @@ pub covered_move : (levels : ℕ) → (p : List ℕ) (x c : ℕ) (q : List ℕ) 
 covered_move levels p x c q h move =
     let kept = stones_kept p x c q h.board move in
     let low = h.stones in
-    (record { board = next_is_board p x c q h.board move; stones = omega arith }, kept)
+    (record { board = IsBoard-next p x c q h.board move; stones = omega arith }, kept)
 
 -- ---- what is forced is allowed
 

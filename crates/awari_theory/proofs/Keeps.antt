@@ -7,7 +7,8 @@ use Rattle.awari_table.specs.Certificate.{Table}
 use Rattle.awari_theory.specs.Older.{IsCertificate}
 use Rattle.awari_theory.specs.Secures.{Secures}
 use Rattle.awari_theory.proofs.Sides.{seen, own, Holds, IsPly, holds_step}
-use Rattle.awari_theory.proofs.Moves.{stones_kept, next_is_board, move_of}
+use Rattle.awari_theory.proofs.Moves.{stones_kept, move_of}
+use Rattle.awari_board.proofs.Keeping.{IsBoard-next}
 
 -- a board that the certificate speaks of
 pub record IsCovered (levels : ℕ) (p : List ℕ) : Type 0 where
@@ -18,7 +19,7 @@ pub covered_next : (levels : ℕ) → (p : List ℕ) (x : ℕ) → IsCovered lev
 covered_next levels p x h legal =
     let kept = stones_kept p x _ _ h.board (move_of p x legal) in
     let low = h.stones in
-    record { board = next_is_board p x _ _ h.board (move_of p x legal); stones = omega arith }
+    record { board = IsBoard-next p x _ _ h.board (move_of p x legal); stones = omega arith }
 
 -- the ply of a legal pit, by the rules of the certificate
 pub ply_of : (t : Table) (levels limit : ℕ) → IsCertificate t levels limit → (first : Bool) (s : Standing) (x : ℕ) → IsCovered levels s.board → IsLegal s.board x

@@ -9,7 +9,8 @@ use Rattle.awari_theory.specs.Worth.{IsWorth}
 use Rattle.awari_theory.specs.Least.{Within, IsLeastDistance}
 use Rattle.awari_theory.proofs.Keeps.{IsCovered}
 use Rattle.awari_theory.proofs.Forces.{IsValue, is_end, ended_or_planned, covered_move}
-use Rattle.awari_theory.proofs.Worths.{value_cases, values}
+use Rattle.awari_theory.proofs.Worths.{values}
+use Rattle.awari_theory.proofs.Sides.{value_cases}
 
 -- a quiet move by which the value stays, or falls short of a negative one, leads to a board that is not even
 turned_uneven : (v w : ℤ) → (pos 0 -ℤ w) ≡ v → v ≢ pos 0 → w ≢ pos 0

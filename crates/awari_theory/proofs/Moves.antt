@@ -7,10 +7,6 @@ use Rattle.awari_board.proofs.Keeping.{IsBoard-next, sum-from_IsMove}
 pub stones_kept : (p : List ℕ) (x c : ℕ) (q : List ℕ) → IsBoard p → IsMove p x c q → sum q + c ≡ sum p
 stones_kept p x c q board move = sum-from_IsMove p x c q board.pits move
 
--- a move leads to a board
-pub next_is_board : (p : List ℕ) (x c : ℕ) (q : List ℕ) → IsBoard p → IsMove p x c q → IsBoard q
-next_is_board = IsBoard-next
-
 -- the move of a legal pit
 pub move_of : (p : List ℕ) (x : ℕ) → IsLegal p x → IsMove p x (captured p x) (next_board p x)
 move_of p x legal = record { legal = legal; captures = refl; leaves = refl }

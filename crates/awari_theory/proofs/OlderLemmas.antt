@@ -7,15 +7,13 @@ use Rattle.awari_table.specs.Images.{table_of, greatest_limit}
 use Rattle.awari_table.specs.Shelves.{IsShelf}
 use Rattle.awari_table.proofs.CertificateLemmas.{plies_some, right_from_shelf, limited_from_shelf}
 use Rattle.awari_theory.specs.Older.{DistancesFall, IsCertificate}
-
-sign_cases : (v : ℤ) → (pos 0 <ℤ v) ⊎ ((v <ℤ pos 0) ⊎ (v ≡ pos 0))
-sign_cases v = grind (arith, ints)
+use Rattle.awari_theory.proofs.Sides.{value_cases}
 
 -- distances that are the least fall
 pub DistancesFall-least : (t : Table) (p : List ℕ) → DistancesAreLeast t p → DistancesFall t p
 DistancesFall-least t p h = record {
   even = h.even;
-  uneven = λ going other. elim (sign_cases (t.value p)) [
+  uneven = λ going other. elim (value_cases (t.value p)) [
     | inl up ↦ let (x, c, q, move, gain, takes) = (h.won going up).0 in omega (arith, plies_some c (t.dist q), takes)
     | inr (inl down) ↦ let (x, c, q, move, takes) = (h.lost going down).0 in omega (arith, plies_some c (t.dist q), takes)
     | inr (inr even) ↦ absurd (other even)

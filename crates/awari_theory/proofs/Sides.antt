@@ -57,8 +57,11 @@ comes_nearer true false v v' d d' limit h k = h.losing (omega (arith, ints)) ref
 comes_nearer false true v v' d d' limit h k = h.losing (omega (arith, ints)) refl
 comes_nearer false false v v' d d' limit h k = grind (arith, h.winning refl k)
 
-sign_cases : (v : ℤ) → (v ≤ℤ pos 0) ⊎ (pos 0 <ℤ v)
+pub sign_cases : (v : ℤ) → (v ≤ℤ pos 0) ⊎ (pos 0 <ℤ v)
 sign_cases v = grind (arith, ints)
+
+pub value_cases : (v : ℤ) → (pos 0 <ℤ v) ⊎ ((v <ℤ pos 0) ⊎ (v ≡ pos 0))
+value_cases v = grind (arith, ints)
 
 pub holds_step : (first moves : Bool) (w r v v' : ℤ) (n d c d' limit : ℕ) → IsPly first moves v v' c d d' limit → Holds first moves w r v n d limit
     → Holds first (not moves) w (signed moves r (pos c)) v' (if c == 0 then n + 1 else 0) d' limit

@@ -7,7 +7,7 @@ use Rattle.awari_table.specs.declared.images.Image.{Image}
 use Rattle.awari_theory.specs.Older.{IsCertificate}
 use Rattle.awari_table.specs.Images.{no_image, entry_of, table_of, greatest_limit}
 use Rattle.awari_table.specs.Shelves.{IsShelf}
-use Rattle.awari_table.proofs.CertificateLemmas.{right_from_shelf}
+use Rattle.awari_table.proofs.CertificateLemmas.{entry_of-take, right_from_shelf}
 use Rattle.awari_table.proofs.ShelfLemmas.{IsShelf-take}
 use Rattle.awari_theory.specs.Secures.{Comes}
 use Rattle.awari_theory.specs.Least.{IsLeastDistance}
@@ -18,11 +18,6 @@ use Rattle.awari_theory.proofs.Nears.{soon}
 use Rattle.awari_theory.proofs.Comes.{comes}
 use Rattle.awari_theory.proofs.Worths.{value_is_worth, values_agree}
 use Rattle.awari_theory.proofs.Leasts.{dist_is_least, least_unique}
-
--- the levels below n say all of boards with fewer than n stones
-entry_of-take : (levels : List Image) (n : ℕ) (p : List ℕ) → sum p < n → entry_of (take n levels) p ≡ entry_of levels p
-unfolding entry_of
-entry_of-take levels n p low = rw (get_or-take n levels (sum p) no_image low) refl
 
 -- The lowest levels of a shelf are a certificate by the table of all of them, with their own limit.
 IsCertificate-front : (levels : List Image) (n : ℕ) → IsShelf levels → n ≤ length levels → IsCertificate (table_of levels) n (greatest_limit (take n levels))

@@ -7,9 +7,11 @@ use Rattle.awari_table.specs.Certificate.{Table}
 use Rattle.awari_theory.specs.Older.{IsCertificate}
 use Rattle.awari_theory.specs.Worth.{Forced, Greatest, NoneForced, IsWorthBy, IsWorthBelow, IsWorth}
 use Rattle.awari_theory.specs.Promises.{IsRightWorth}
-use Rattle.awari_theory.proofs.Moves.{stones_kept, next_is_board}
+use Rattle.awari_theory.proofs.Moves.{stones_kept}
 use Rattle.awari_theory.proofs.Keeps.{IsCovered}
 use Rattle.awari_theory.proofs.Forces.{IsValue, allows, favours, sound, reaches}
+use Rattle.awari_theory.proofs.Sides.{value_cases}
+use Rattle.awari_board.proofs.Keeping.{IsBoard-next}
 
 -- ---- a worth is one number
 
@@ -116,9 +118,6 @@ bad_size : (v : ℤ) → v <ℤ pos 0 → (v ≡ neg_ℤ (pos (size v))) × (1 �
 bad_size (pos n) h = absurd (omega (arith, ints))
 bad_size (negsuc n) h = (refl, omega arith)
 
-pub value_cases : (v : ℤ) → (pos 0 <ℤ v) ⊎ ((v <ℤ pos 0) ⊎ (v ≡ pos 0))
-value_cases v = grind (arith, ints)
-
 -- a covered board is worth its value, where boards with fewer stones are
 by_value : (t : Table) (levels limit top : ℕ) (worth : List ℕ → ℤ → Type 0) → IsCertificate t levels limit → IsValue t levels top worth
     → (p : List ℕ) → IsCovered levels p → sum p ≤ top → IsWorthBy worth p (t.value p)
@@ -204,7 +203,7 @@ pub worth_by : (p : List ℕ) (w : ℤ) → IsBoard p → IsWorth p w ↔ IsWort
 worth_by p w board =
     let agree : Agree (λ q. IsBoard q × (sum q ≤ sum p)) (WorthUnder p) IsWorth
     = record {
-      next = λ r x c q ok move. let kept = stones_kept r x c q ok.0 move in (next_is_board r x c q ok.0 move, omega (arith, ok.1));
+      next = λ r x c q ok move. let kept = stones_kept r x c q ok.0 move in (IsBoard-next r x c q ok.0 move, omega (arith, ok.1));
       there = λ r x c q v ok move taken h. (below_is (sum p) q v h.0).0 h.1;
       back = λ r x c q v ok move taken h.
           let kept = stones_kept r x c q ok.0 move in

@@ -9,6 +9,7 @@ use Rattle.awari_board.specs.Rules.{landing, fallen, sown}
 use Rattle.awari_board.proofs.Falling.{fallen-more}
 use Rattle.awari_board.proofs.Keeping.{sum-sown}
 use Rattle.awari_unmove.specs.Undoing.{IsUnsowing, unsown}
+use Rattle.awari_board.proofs.Capturing.{always_none}
 
 -- no stone falls into its origin
 pub fallen-own : (x k : ℕ) → x < 12 → fallen x k x ≡ 0
@@ -27,14 +28,10 @@ fallen-grows x k (suc d) i =
     let before = fallen-grows x k d i in
     subst (λ m. fallen x k i ≤ fallen x m i) e (omega (arith, more, before))
 
-none_either : (b : Bool) → let none : ℕ = 0 in cond b none none ≡ none
-none_either true = refl
-none_either false = refl
-
 pub IsUnsowing-none : (back : List ℕ) (x : ℕ) → length back ≡ 12 → IsUnsowing back x 0 back
 IsUnsowing-none back x size = record {
   size = size;
-  each = λ i in_board. ap (λ n. get_or back i 0 + n) (sym (none_either (eqb i x)));
+  each = λ i in_board. ap (λ n. get_or back i 0 + n) (sym (always_none (eqb i x)));
   stones = refl;
 }
 

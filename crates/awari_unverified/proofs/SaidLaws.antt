@@ -10,9 +10,12 @@ use Rattle.awari_places.proofs.Reading.{still_says}
 use Rattle.awari_places.proofs.Refusing.{look_before, refused_before}
 use Rattle.awari_play.specs.declared.weighing.Weighed.{Weighed}
 use Rattle.awari_table.specs.declared.images.Entry.{Entry}
-use Rattle.awari_unverified.specs.Held.{Keeps, by_lent, stands_in}
+use Rattle.awari_places.specs.Asked.{Keeps, by_files as files_by, stands_in}
+use Rattle.awari_places.specs.Lasting.{files_last}
+use Rattle.awari_play.specs.Saying.{IsLasting}
+use Rattle.awari_unverified.specs.Held.{by_lent}
 use Rattle.awari_unverified.specs.Said.{AreMovesSaid, IsEntrySaid, IsServedSaid, by_files}
-use Rattle.awari_unverified.specs.declared.files.Files.{Files}
+use Rattle.awari_unverified.specs.declared.files.Asked.{Asked}
 use Rattle.awari_unverified.specs.declared.unsaid.Unsaid.{Unsaid}
 use Rattle.awari_unverified.specs.declared.unsaid.Unsaid.TheVariants.{NotYet, Folder}
 
@@ -32,35 +35,32 @@ moves_before replies old new same levels then board (Err (NotYet below)) is = is
 moves_before replies old new same levels then board (Err (Folder fault)) (stay, low, is) = (stay, low, look_before old new levels fault same is)
 
 module _ {F : Type 0} (state : F → State) where
-  keeps_all : (files : Files F) → Keeps state files files
-  keeps_all files = record { lent = refl; same = λ n. refl; levels = refl }
+  laws : IsLasting (files_by state)
+  laws = files_last state
 
-  keeps_here : (known then : Files F) → then ≡ known → Keeps state known then
-  keeps_here known then e = subst (λ (files : Files F). Keeps state known files) (sym e) (keeps_all known)
-
-  keeps_more : (first known then : Files F) → Keeps state first known → Keeps state known then → Keeps state first then
-  keeps_more first known then a b = record { lent = b.lent ∙ a.lent; same = λ n. b.same n ∙ a.same n; levels = b.levels ∙ a.levels }
+  keeps_here : (known then : Asked F) → then ≡ known → Keeps state known.files then.files
+  keeps_here known then e = subst (λ (asked : Asked F). Keeps state known.files asked.files) (sym e) (laws.itself known.files)
 
   -- one answer
-  answer_said : (first known : Files F) → Keeps state first known → (request : List ℕ) (then : Files F) (answer : Answer Unsaid) → IsAnswerTo (by_lent state) known request answer then
-      → Keeps state known then × IsAnswerTo (by_files (stands_in state first)) known.levels request answer then.levels
+  answer_said : (first known : Asked F) → Keeps state first.files known.files → (request : List ℕ) (then : Asked F) (answer : Answer Unsaid) → IsAnswerTo (by_lent state) known request answer then
+      → Keeps state known.files then.files × IsAnswerTo (by_files (stands_in state first.files)) known.files.levels request answer then.files.levels
   answer_said first known kept request then (Found e) (board, b, l, (keeps, is)) =
-      (keeps, (board, b, l, entry_before (stands_in state first) (stands_in state known) kept.same known.levels then.levels board (Ok e) is))
+      (keeps, (board, b, l, entry_before (stands_in state first.files) (stands_in state known.files) kept.same.stands known.files.levels then.files.levels board (Ok e) is))
   answer_said first known kept request then (Moves w) (board, replies, b, l, (keeps, is)) =
-      (keeps, (board, replies, b, l, moves_before replies (stands_in state first) (stands_in state known) kept.same known.levels then.levels board (Ok w) is))
+      (keeps, (board, replies, b, l, moves_before replies (stands_in state first.files) (stands_in state known.files) kept.same.stands known.files.levels then.files.levels board (Ok w) is))
   answer_said first known kept request then (Probed board w) (b, l, (keeps, is)) =
-      (keeps, (b, l, moves_before false (stands_in state first) (stands_in state known) kept.same known.levels then.levels board (Ok w) is))
-  answer_said first known kept request then (Unprobed bytes (Board fault)) (r, (text, l, short, faulty, e)) = (keeps_here known then e, (r, (text, l, short, faulty, ap (λ files. files.levels) e)))
+      (keeps, (b, l, moves_before false (stands_in state first.files) (stands_in state known.files) kept.same.stands known.files.levels then.files.levels board (Ok w) is))
+  answer_said first known kept request then (Unprobed bytes (Board fault)) (r, (text, l, short, faulty, e)) = (keeps_here known then e, (r, (text, l, short, faulty, ap (λ (asked : Asked F). asked.files.levels) e)))
   answer_said first known kept request then (Unprobed bytes (Ask fault)) (r, (board, b, l, (keeps, is))) =
-      (keeps, (r, (board, b, l, moves_before false (stands_in state first) (stands_in state known) kept.same known.levels then.levels board (Err fault) is)))
+      (keeps, (r, (board, b, l, moves_before false (stands_in state first.files) (stands_in state known.files) kept.same.stands known.files.levels then.files.levels board (Err fault) is)))
   answer_said first known kept request then (Unanswered fault) (board, b, inl (l, (keeps, is))) =
-      (keeps, (board, b, inl (l, entry_before (stands_in state first) (stands_in state known) kept.same known.levels then.levels board (Err fault) is)))
+      (keeps, (board, b, inl (l, entry_before (stands_in state first.files) (stands_in state known.files) kept.same.stands known.files.levels then.files.levels board (Err fault) is)))
   answer_said first known kept request then (Unanswered fault) (board, b, inr (replies, l, (keeps, is))) =
-      (keeps, (board, b, inr (replies, l, moves_before replies (stands_in state first) (stands_in state known) kept.same known.levels then.levels board (Err fault) is)))
-  answer_said first known kept request then (Refused fault) (text, l, short, faulty, e) = (keeps_here known then e, (text, l, short, faulty, ap (λ files. files.levels) e))
-  answer_said first known kept request then (Seen n) (l, is, e) = (keeps_here known then e, (l, is, ap (λ files. files.levels) e))
-  answer_said first known kept request then Bye (l, e) = (keeps_here known then e, (l, ap (λ files. files.levels) e))
-  answer_said first known kept request then What (l, e) = (keeps_here known then e, (l, ap (λ files. files.levels) e))
+      (keeps, (board, b, inr (replies, l, moves_before replies (stands_in state first.files) (stands_in state known.files) kept.same.stands known.files.levels then.files.levels board (Err fault) is)))
+  answer_said first known kept request then (Refused fault) (text, l, short, faulty, e) = (keeps_here known then e, (text, l, short, faulty, ap (λ (asked : Asked F). asked.files.levels) e))
+  answer_said first known kept request then (Seen n) (l, is, e) = (keeps_here known then e, (l, is, ap (λ (asked : Asked F). asked.files.levels) e))
+  answer_said first known kept request then Bye (l, e) = (keeps_here known then e, (l, ap (λ (asked : Asked F). asked.files.levels) e))
+  answer_said first known kept request then What (l, e) = (keeps_here known then e, (l, ap (λ (asked : Asked F). asked.files.levels) e))
 
   -- it is told as it was
   told : (stands : Stands) (answer : Answer Unsaid) → answer_text (by_files stands) answer ≡ answer_text (by_lent state) answer
@@ -75,45 +75,45 @@ module _ {F : Type 0} (state : F → State) where
   told stands Bye = refl
   told stands What = refl
 
-  answered_said : (first last : Files F) (input output : List ℕ) → Answered (by_lent state) first input output last
-      → Keeps state first last × Answered (by_files (stands_in state first)) first.levels input output last.levels
-  answered_said first last input output (none known) = (keeps_all known, none known.levels)
+  answered_said : (first last : Asked F) (input output : List ℕ) → Answered (by_lent state) first input output last
+      → Keeps state first.files last.files × Answered (by_files (stands_in state first.files)) first.files.levels input output last.files.levels
+  answered_said first last input output (none known) = (laws.itself known.files, none known.files.levels)
   answered_said first last input output (more f known l i o request answer a one is other) =
       let b = answered_said f known i o a in
       let c = answer_said f known b.0 request l answer is in (
-        keeps_more f known l b.0 c.0,
-        subst (λ (text : List ℕ). Answered (by_files (stands_in state f)) f.levels (i ++ (request ++ 10 ∷ [])) (o ++ text) l.levels) (told (stands_in state f) answer)
-            (more f.levels known.levels l.levels i o request answer b.1 one c.1 other),
+        laws.on f.files known.files l.files b.0 c.0,
+        subst (λ (text : List ℕ). Answered (by_files (stands_in state f.files)) f.files.levels (i ++ (request ++ 10 ∷ [])) (o ++ text) l.files.levels) (told (stands_in state f.files) answer)
+            (more f.files.levels known.files.levels l.files.levels i o request answer b.1 one c.1 other),
       )
 
-  served_said : (first last : Files F) (input output : List ℕ) → Served (by_lent state) first input output last
-      → Keeps state first last × Served (by_files (stands_in state first)) first.levels input output last.levels
-  served_said first last input output (ended f l i o a) = let b = answered_said f l i o a in (b.0, ended f.levels l.levels i o b.1)
+  served_said : (first last : Asked F) (input output : List ℕ) → Served (by_lent state) first input output last
+      → Keeps state first.files last.files × Served (by_files (stands_in state first.files)) first.files.levels input output last.files.levels
+  served_said first last input output (ended f l i o a) = let b = answered_said f l i o a in (b.0, ended f.files.levels l.files.levels i o b.1)
   served_said first last input output (unended f known l i o request answer a one some is) =
       let b = answered_said f known i o a in
       let c = answer_said f known b.0 request l answer is in (
-        keeps_more f known l b.0 c.0,
-        subst (λ (text : List ℕ). Served (by_files (stands_in state f)) f.levels (i ++ request) (o ++ text) l.levels) (told (stands_in state f) answer)
-            (unended f.levels known.levels l.levels i o request answer b.1 one some c.1),
+        laws.on f.files known.files l.files b.0 c.0,
+        subst (λ (text : List ℕ). Served (by_files (stands_in state f.files)) f.files.levels (i ++ request) (o ++ text) l.files.levels) (told (stands_in state f.files) answer)
+            (unended f.files.levels known.files.levels l.files.levels i o request answer b.1 one some c.1),
       )
   served_said first last input output (quits f known l i o request rest a one is) =
       let b = answered_said f known i o a in
       let c = answer_said f known b.0 request l Bye is in
-      (keeps_more f known l b.0 c.0, quits f.levels known.levels l.levels i o request rest b.1 one c.1)
+      (laws.on f.files known.files l.files b.0 c.0, quits f.files.levels known.files.levels l.files.levels i o request rest b.1 one c.1)
 
   -- whether it was served or has only begun, the folder is lent still
-  pub kept_either : {T E : Type 0} (result : Result T E) (first last : Files F) (before input after : Option (List ℕ))
+  pub kept_either : {T E : Type 0} (result : Result T E) (first last : Asked F) (before input after : Option (List ℕ))
       → OnOk result ((bytes : List ℕ) × IsInput input bytes × HasServed (by_lent state) first before bytes after last)
-      → OnErr result ((bytes : List ℕ) × IsInput input bytes × HasBegun (by_lent state) first before bytes after last) → Keeps state first last
+      → OnErr result ((bytes : List ℕ) × IsInput input bytes × HasBegun (by_lent state) first before bytes after last) → Keeps state first.files last.files
   kept_either (Ok x) first last before input after (bytes, is, (output, served, wrote)) begun = (served_said first last bytes output served).0
   kept_either (Err e) first last before input after done (bytes, is, begun) = (served_said first last begun.front (begun.taken ++ begun.due) begun.served).0
 
-  pub served_files : {T E : Type 0} (result : Result T E) (first last : Files F) (before input after : Option (List ℕ))
+  pub served_files : {T E : Type 0} (result : Result T E) (first last : Asked F) (before input after : Option (List ℕ))
       → OnOk result ((bytes : List ℕ) × IsInput input bytes × HasServed (by_lent state) first before bytes after last)
-      → OnOk result (IsServedSaid (stands_in state first) first.levels input before after)
+      → OnOk result (IsServedSaid (stands_in state first.files) first.files.levels input before after)
   served_files (Ok x) first last before input after (bytes, is, (output, served, wrote)) =
       let s = served_said first last bytes output served in
-      (bytes, is, (output, subst (λ (n : ℕ). Served (by_files (stands_in state first)) first.levels bytes output n) s.0.levels s.1, wrote))
+      (bytes, is, (output, subst (λ (n : ℕ). Served (by_files (stands_in state first.files)) first.files.levels bytes output n) s.0.levels s.1, wrote))
   served_files (Err e) first last before input after done = tt
 
 -- a service by names that have what they had

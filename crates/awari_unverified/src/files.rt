@@ -1,26 +1,21 @@
 //! The files of a folder, as who is asked by a service.
 
-ghost use Rattle.std.specs.Prelude.{◌≤◌, ◌+◌};
-ghost use Rattle.awari_table.specs.declared.TheConstants.{HIGHEST_LEVEL};
-
 use crate::refusals::line_of_unsaid;
 use crate::unsaid::Unsaid;
 use awari_board::Board;
 use awari_desk::Oracle;
 use awari_folder::Folder;
-use awari_places::{entry, weigh};
-use awari_play::Weighed;
-use awari_table::{Entry, HIGHEST_LEVEL, TextLine};
+use awari_places::Files;
+use awari_play::{Table, Weighed, weigh_by};
+use awari_table::{Entry, TextLine};
 
-/// The files of a folder, and how many levels they were when they were opened.
+/// The files of a folder, which a service asks.
 #[derive(Drop)]
-pub(crate) struct Files<'a, F> {
-    pub(crate) folder: &'a mut F,
-    pub(crate) levels: u8,
-    ghost few: { levels ≤ HIGHEST_LEVEL + 1 },
+pub(crate) struct Asked<'a, F> {
+    pub(crate) files: Files<'a, F>,
 }
 
-impl<F: Folder> Oracle for Files<'_, F> {
+impl<F: Folder> Oracle for Asked<'_, F> {
     ghost use Rattle.awari_unverified.specs.Held.{by_lent};
 
     type Fault = Unsaid;
@@ -28,26 +23,26 @@ impl<F: Folder> Oracle for Files<'_, F> {
     ghost answering = { by_lent F.state };
 
     fn seen(&self) -> u8 {
-        self.levels
+        self.files.levels
     }
 
     fn ask(&mut self, board: &Board) -> Result<Entry, Unsaid> {
-        let levels = self.levels;
+        let levels = self.files.levels;
         if board.stones() >= levels {
             return Err(Unsaid::NotYet { levels });
         }
-        match entry(self.folder, levels, board) {
+        match self.files.entry(board) {
             Ok(entry) => Ok(entry),
             Err(fault) => Err(Unsaid::Folder { fault }),
         }
     }
 
     fn moves(&mut self, board: &Board, replies: bool) -> Result<Weighed, Unsaid> {
-        let levels = self.levels;
+        let levels = self.files.levels;
         if board.stones() >= levels {
             return Err(Unsaid::NotYet { levels });
         }
-        match weigh(self.folder, levels, board, replies) {
+        match weigh_by(&mut self.files, board, replies) {
             Ok(weighed) => Ok(weighed),
             Err(fault) => Err(Unsaid::Folder { fault }),
         }

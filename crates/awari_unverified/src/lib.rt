@@ -4,14 +4,14 @@
 //! The files of a folder that is lent, asked by a service, in `crates/awari_unverified/src/asking.rt`:
 //!
 //!     pub(crate) fn serve_files<F: Folder, R: Read, W: Write>(
-//!         files: &mut Files<'_, F>,
+//!         asked: &mut Asked<'_, F>,
 //!         input: &mut Counted<R>,
 //!         output: &mut Counted<W>,
 //!     ) -> Result<(), ServeFault>
-//!         ensures keeps { Keeps F.state files.old files.new }
-//!         ensures served { OnOk result (IsServedSaid (stands_in F.state files.old) files.old.levels (R.remaining (inner_of input.old)) (W.contents (inner_of output.old)) (W.contents (inner_of output.new))) }
+//!         ensures keeps { Keeps F.state asked.old.files asked.new.files }
+//!         ensures served { OnOk result (IsServedSaid (stands_in F.state asked.old.files) asked.old.files.levels (R.remaining (inner_of input.old)) (W.contents (inner_of output.old)) (W.contents (inner_of output.new))) }
 //!     {
-//!         serve(files, input, output)
+//!         serve(asked, input, output)
 //!     }
 #![tactic(auto)]
 

@@ -6,11 +6,12 @@ ghost use Rattle.awari_table.specs.declared.TheConstants.{HIGHEST_LEVEL};
 ghost use Rattle.awari_unverified.specs.Said.{IsServedSaid, PrintsServiceSaid};
 
 use crate::asking::serve_files;
-use crate::files::Files;
+use crate::files::Asked;
 use awari_answers::{Replies, Streams, refuse};
 use awari_desk::ServeFault;
+use awari_faults::Refusal;
 use awari_folder::Folder;
-use awari_places::open_levels;
+use awari_places::{Files, open_levels};
 use awari_table::{Counted, HIGHEST_LEVEL};
 use core::mem::replace_with;
 use std::io::{Read, Write};
@@ -112,9 +113,11 @@ fn served_by<'a, F: Folder, R: Read, W: Write>(lent: Lent<'a, F, R>, writer: W) 
         levels,
         reader,
     } = lent;
-    let mut files = Files { folder, levels };
+    let mut asked = Asked {
+        files: Files { folder, levels },
+    };
     let mut output = Counted::new(writer);
-    let served = serve_files(&mut files, &mut Counted::new(reader), &mut output);
-    let Files { folder, levels: _ } = files;
+    let served = serve_files(&mut asked, &mut Counted::new(reader), &mut output);
+    let Files { folder, levels: _ } = asked.files;
     (output.into_inner(), Ended { folder, served })
 }

@@ -6,9 +6,9 @@ use Rattle.awari_file.specs.declared.faults.FileFault.TheVariants.{Truncated}
 use Rattle.awari_file.specs.declared.sizes.TheConstants.{BUFFERED}
 use Rattle.awari_file.specs.Reading.{entries_at, header_at}
 use Rattle.awari_file.specs.Source.{HasFault, IsRefused}
-use Rattle.awari_file.proofs.WholeLaws.{start_at, header_bad, entries_bad, stops_in_header, stops_in_entries, fault_in_header, fault_in_entries}
+use Rattle.awari_file.proofs.WholeLaws.{start_at, header_bad, entries_bad, stops_in_header, stops_in_entries, fault_in_header, fault_in_entries, loaded_of}
 use Rattle.awari_file.proofs.WholeSpell.{body_taken}
-use Rattle.awari_file.proofs.Sealed.{known_unsealed, known_stops, taken_as, unsealed_of, end_stops}
+use Rattle.awari_file.proofs.Sealed.{known_unsealed, known_stops, taken_as, end_stops}
 use Rattle.awari_file.proofs.Steps.{stops_along}
 use Rattle.awari_file.proofs.reading.read_unsealed.Goals as goal
 
@@ -44,7 +44,7 @@ returns-in_err-digest-clause-fault g c =
     let (rest, at, header) = c.in_ok-version.ensures.parsed xs xs start in
     let (new, left, items, at2, entries) = c.in_ok-read_entries.ensures.parsed xs rest at in
     let (has, body) = body_taken xs rest left at2.done _ c.size.result new c.size.ensures.boards header entries at2.parts at2.bytes in
-    end_stops e (unsealed_of _ new []) xs left _ has (at2.parts ∙ ap (λ (l : List ℕ). l ++ left) body) (c.in_err-digest.ensures.short left at2.known_is)))
+    end_stops e (loaded_of _ new []) xs left _ has (at2.parts ∙ ap (λ (l : List ℕ). l ++ left) body) (c.in_err-digest.ensures.short left at2.known_is)))
 
 pub returns-clause-found : goal.returns-clause-found
 returns-clause-found g c =
