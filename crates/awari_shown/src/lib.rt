@@ -17,5 +17,5 @@
 mod json;
 mod moves;
 
-pub use json::{entry_json, refusal_json, weighed_json};
+pub use json::{entry_json, entry_members, refusal_json, weighed_json};
 pub use moves::weighed_text;
