@@ -4,7 +4,7 @@ use Rattle.core.specs.Option.{is_some}
 use Rattle.std.specs.Io.KnownBytes.{Appends}
 use Rattle.std.specs.List.{flat_map}
 use Rattle.awari_board.specs.Rules.{own_stones}
-use Rattle.awari_facts.specs.Facts.{captures_by, gains_in, keeping_moves, greediest, legal_moves, lost_by, moves_gaining, waits}
+use Rattle.awari_facts.specs.Facts.{captures_by, gains_in, keeping_moves, greediest, largest_capture, legal_moves, lost_by, moves_gaining, waits}
 use Rattle.awari_facts.specs.Numbers.{is_own, number_in}
 use Rattle.awari_facts.specs.declared.looks.Gained.{Gained}
 use Rattle.awari_queries.specs.Draws.{draw_of, taken}
@@ -77,10 +77,14 @@ fits spans e = is_in spans.value e.value && (is_in spans.distance (pos e.dist) &
 abbrev pub is_of_kind : Wanted → ℕ → Bool
 is_of_kind wanted moves = not (wanted.ended && nat_lt 0 moves) && not (wanted.running && moves == 0)
 
--- what the rules say of the board is as it is asked for: its stones, its moves, and what the plan captures
+-- what the plan captures, and the largest capture, are in the spans that are asked for
+unfoldable pub takes : Spans → List ℕ → Entry → Bool
+takes spans board e = has spans.captures (captures_by board e.plan) && has spans.greedy (largest_capture board)
+
+-- what the rules say of the board is as it is asked for: its stones, its moves, and what they capture
 unfoldable pub suits : Wanted → List ℕ → Entry → Bool
 suits wanted board e =
-    is_in wanted.spans.side (pos (own_stones board)) && (is_in wanted.spans.moves (pos (legal_moves board)) && (has wanted.spans.captures (captures_by board e.plan)
+    is_in wanted.spans.side (pos (own_stones board)) && (is_in wanted.spans.moves (pos (legal_moves board)) && (takes wanted.spans board e
     && is_of_kind wanted (legal_moves board)))
 
 -- what these moves gain is as it is asked for, on a board of this value: how many keep it, and what the largest capture throws away
