@@ -1,5 +1,5 @@
 -- What is known of a board, pit by pit.
-use Rattle.std.proofs.Common.{◌≡◌, ◌↔◌, ℕ, ◌+◌, ◌<◌, ◌≤◌, Bool, true, false, cond, List, ◌++◌, ◌∷◌, [], count_by, fold, take, slice_get, Some, None, ℤ, pos, ◌-ℤ◌, ap, sym, ◌∙◌, refl, sum, zero-add, arith}
+use Rattle.std.proofs.Common.{◌≡◌, ◌↔◌, ℕ, ◌+◌, ◌<◌, ◌≤◌, Bool, true, false, cond, List, ◌++◌, ◌∷◌, [], count_by, fold, take, slice_get, Some, None, ℤ, pos, ◌-ℤ◌, ap, sym, ◌∙◌, refl, max, sum, zero-add, arith}
 use Rattle.std.proofs.lemmas.Bool.{false≢true}
 use Rattle.std.proofs.lemmas.List.Sums.{fold-append, sum_by-append}
 use Rattle.std.specs.List.{range_with_len}
@@ -14,7 +14,7 @@ use Rattle.awari_rank.specs.Tuples.{tuples}
 use Rattle.awari_table.proofs.ShelfLemmas.{take-read}
 use Rattle.awari_table.specs.Images.{entry_of}
 use Rattle.awari_table.specs.declared.images.Image.{Image}
-use Rattle.awari_facts.specs.Facts.{captures_by, gained_by}
+use Rattle.awari_facts.specs.Facts.{captured_by, captures_by, gained_by, most_of}
 use Rattle.awari_facts.specs.declared.looks.Gained.{Gained}
 
 range-next : (n : ℕ) → range_with_len 0 (n + 1) ≡ range_with_len 0 n ++ n ∷ []
@@ -47,6 +47,15 @@ captures-legal board x c next move =
 
 pub captures-none : (board : List ℕ) (x : ℕ) → (IsLegal board x → ⊥) → None ≡ captures_by board (Some x)
 captures-none board x none = sym (ap (λ b. cond b (Some (captured board x)) None) (not_legal board x none))
+
+pub captured-none : (board : List ℕ) (x : ℕ) → (IsLegal board x → ⊥) → 0 ≡ captured_by board x
+captured-none board x none = sym (ap (λ b. cond b (captured board x) 0) (not_legal board x none))
+
+-- the most that the moves from one more pit capture
+pub most-next : (board : List ℕ) (n most taken next : ℕ) → most ≡ most_of board (range_with_len 0 n) → taken ≡ captured_by board n → next ≡ max most taken → next ≡ most_of board (range_with_len 0 (n + 1))
+most-next board n most taken next before is more =
+    more ∙ ap (max most) is ∙ ap (λ m. max m (captured_by board n)) before
+    ∙ sym (ap (most_of board) (range-next n) ∙ fold-append (λ m x. max m (captured_by board x)) 0 (range_with_len 0 n) (n ∷ []))
 
 abbrev gain : List Image → List ℕ → ℕ → Gained
 gain images board x = record { captured = captured board x; value = pos (captured board x) -ℤ (entry_of images (next_board board x)).value }

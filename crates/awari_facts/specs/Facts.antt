@@ -1,5 +1,5 @@
 -- What is known of a board beside its entry: by the rules alone, or by what levels say of the boards that its moves leave.
-use Rattle.std.specs.Prelude.{ℕ, ◌==◌, Bool, false, ◌&&◌, ◌||◌, nat_lt, if◌then◌else◌, List, fold, count_by, map, ℤ, pos, neg_ℤ, ◌-ℤ◌, int_lt, Option, Some, None}
+use Rattle.std.specs.Prelude.{ℕ, ◌==◌, Bool, false, ◌&&◌, ◌||◌, nat_lt, if◌then◌else◌, List, fold, count_by, map, max, ℤ, pos, neg_ℤ, ◌-ℤ◌, int_lt, Option, Some, None}
 use Rattle.std.specs.List.{range_with_len}
 use Rattle.std.specs.Ordering.{int_eq}
 use Rattle.awari_board.specs.Rules.{captured, next_board, turned}
@@ -20,6 +20,21 @@ legal_moves board = count_by (is_legal board) own_pits
 abbrev pub captures_by : List ℕ → Option ℕ → Option ℕ
 captures_by board None = None
 captures_by board (Some x) = if is_legal board x then Some (captured board x) else None
+
+-- the stones that the move from a pit captures, 0 if it is not legal
+abbrev pub captured_by : List ℕ → ℕ → ℕ
+captured_by board x = if is_legal board x then captured board x else 0
+
+-- the most that a legal move from one of these pits captures, and from one of the mover's
+abbrev pub most_of : List ℕ → List ℕ → ℕ
+most_of board pits = fold (λ most x. max most (captured_by board x)) 0 pits
+
+abbrev pub most_captured : List ℕ → ℕ
+most_captured board = most_of board own_pits
+
+-- the stones of the largest capture among the legal moves, if one of them captures
+abbrev pub largest_capture : List ℕ → Option ℕ
+largest_capture board = if most_captured board == 0 then None else Some (most_captured board)
 
 -- What a legal move captures, and what the mover gains by it: that, less the value of the board that it leaves.
 abbrev pub gained_by : List Image → List ℕ → ℕ → Option Gained

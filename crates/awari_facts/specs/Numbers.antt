@@ -1,13 +1,13 @@
 -- Numbers of a board, by column.
 use Rattle.std.specs.Prelude.{◌≡◌, ◌≤ℤ◌, ℕ, Bool, true, false, List, ℤ, pos, neg_ℤ, Option, Some, None, slice_get}
 use Rattle.awari_queries.specs.declared.columns.Column.{Column}
-use Rattle.awari_queries.specs.declared.columns.Column.TheVariants.{Rank, Value, Distance, Plan, Captures, Moves, Keep}
+use Rattle.awari_queries.specs.declared.columns.Column.TheVariants.{Rank, Value, Distance, Plan, Captures, Greedy, Moves, Keep}
 use Rattle.awari_rank.specs.Rank.{rank_of}
 use Rattle.awari_rank.specs.Tuples.{tuples}
 use Rattle.awari_table.specs.Images.{entry_of}
 use Rattle.awari_table.specs.declared.images.Entry.{Entry}
 use Rattle.awari_table.specs.declared.images.Image.{Image}
-use Rattle.awari_facts.specs.Facts.{captures_by, keeping_moves, legal_moves}
+use Rattle.awari_facts.specs.Facts.{captures_by, keeping_moves, largest_capture, legal_moves}
 
 -- a number, or -1 for none
 abbrev pub or_less : Option ℕ → ℤ
@@ -21,6 +21,7 @@ number_in images Value board = (entry_of images board).value
 number_in images Distance board = pos (entry_of images board).dist
 number_in images Plan board = or_less (entry_of images board).plan
 number_in images Captures board = or_less (captures_by board (entry_of images board).plan)
+number_in images Greedy board = or_less (largest_capture board)
 number_in images Moves board = pos (legal_moves board)
 number_in images Keep board = pos (keeping_moves images board)
 
@@ -31,6 +32,7 @@ is_own Value = true
 is_own Distance = true
 is_own Plan = true
 is_own Captures = true
+is_own Greedy = true
 is_own Moves = true
 is_own Keep = false
 

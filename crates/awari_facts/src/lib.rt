@@ -1,6 +1,7 @@
 //! What is known of a board beside its entry: how many moves are legal and how many keep its value, what
-//! the plan captures, whether it is a burden to move, and what is thrown away by capturing the most. What
-//! needs other boards looks them up in levels in memory, which were verified or only read.
+//! the plan captures and the most that a move does, whether it is a burden to move, and what is thrown away by
+//! capturing the most. What needs other boards looks them up in levels in memory, which were verified or only
+//! read.
 //!
 //! What the move of a plan captures, in `crates/awari_facts/src/facts.rt`:
 //!
@@ -21,7 +22,7 @@ mod looks;
 mod numbers;
 mod sources;
 
-pub use facts::{legal_moves, own_stones, plan_captures};
+pub use facts::{largest_capture, legal_moves, own_stones, plan_captures};
 pub use loads::{load_to, open_all, open_to};
 pub use looks::{Gained, Gains, gains_of, moves_gaining, trap_by, waits};
 pub use numbers::{Seen, is_own, number_of, own_number};

@@ -9,7 +9,7 @@ ghost use Rattle.awari_table.specs.declared.images.Image.{Image};
 ghost use Rattle.awari_facts.specs.Numbers.{IsAt, IsNumber, is_own, number_in, or_less};
 ghost use Rattle.awari_facts.specs.Sources.{images_of};
 
-use crate::facts::{legal_moves, plan_captures};
+use crate::facts::{largest_capture, legal_moves, plan_captures};
 use crate::looks::{gains_of, moves_gaining};
 use crate::sources::{Levels, levels_in};
 use awari_packed::PackedBoard;
@@ -62,6 +62,7 @@ pub fn is_own(column: Column) -> bool
         | Column::Distance
         | Column::Plan
         | Column::Captures
+        | Column::Greedy
         | Column::Moves => true,
     }
 }
@@ -82,6 +83,7 @@ pub fn own_number(column: Column, seen: &Seen) -> Option<i64>
         Column::Distance => Some(i64::from(seen.entry.dist)),
         Column::Plan => Some(or_less(seen.entry.plan)),
         Column::Captures => Some(or_less(plan_captures(&seen.board(), seen.entry.plan))),
+        Column::Greedy => Some(or_less(largest_capture(&seen.board()))),
         Column::Moves => Some(i64::from(legal_moves(&seen.board()))),
         Column::Keep => None,
     }

@@ -1,22 +1,16 @@
 -- Lines of boards, some written and some kept; and boards that are held.
-use Rattle.std.proofs.Common.{◌≡◌, ◌≤◌, ◌-◌, take, arith, ℕ, true, false, cond, length, map, List, [], ◌∷◌, ◌++◌, Option, sym, ◌∙◌, ap, subst, append_assoc, append-nil}
+use Rattle.std.proofs.Common.{◌≡◌, ℕ, true, false, cond, length, List, [], ◌∷◌, ◌++◌, Option, sym, ◌∙◌, ap, subst, append_assoc, append-nil}
 use Rattle.std.proofs.KnownBytes.{Appends-nil, Appends-trans}
 use Rattle.std.proofs.lemmas.Grind.{flat_map-append}
-use Rattle.std.proofs.Math.Seq.{take-append_seam}
-use Rattle.std.proofs.lemmas.List.{length-append}
 use Rattle.std.specs.Fmt.{decimal}
 use Rattle.std.specs.Io.KnownBytes.{Appends}
 use Rattle.awari_table.specs.declared.images.Entry.{Entry}
 use Rattle.awari_table.specs.declared.images.Image.{Image}
-use Rattle.awari_members.specs.Json.{commas}
-use Rattle.awari_members.specs.Members.{line_text, member_text}
-use Rattle.awari_shown.specs.Json.{entry_json, entry_members}
-use Rattle.awari_members.specs.declared.forms.Form.TheVariants.{Json}
 use Rattle.awari_levels.proofs.ChoiceLaws.{all, all_wanted}
 use Rattle.awari_levels.specs.Batches.{Passes}
 use Rattle.awari_levels.specs.Boards.{AppendsWanted, level_lines, wanted_text}
 use Rattle.awari_levels.specs.declared.batches.LineNumbers.{LineNumbers}
-use Rattle.awari_levels.specs.Listing.{AppendsLines, added_text, board_line, board_lines, end_of, header_of, header_text, line_of, numbers_of, stem_of, wanted_boards}
+use Rattle.awari_levels.specs.Listing.{AppendsLines, board_line, board_lines, header_of, header_text, line_of, numbers_of, wanted_boards}
 use Rattle.awari_levels.specs.declared.wanted.Wanted.{Wanted}
 
 -- the lines of boards so far
@@ -46,7 +40,7 @@ lists-all wanted images boards whole before now after kept lines is rest =
 
 -- the lines of all boards of a level
 pub all_listed : (images : List Image) (level : ℕ) (before after : Option (List ℕ)) → AppendsLines all images (wanted_boards all images level) before after → Appends before after (level_lines images level)
-unfolding header_text added_text end_of level_lines
+unfolding header_text level_lines
 all_listed images level before after listed = subst (λ boards. Appends before after (board_lines all images boards)) (all_wanted images level) listed
 
 -- ---- what is wanted
@@ -78,20 +72,6 @@ the_numbers e moves keep = record { entry = e; moves = moves; keep = keep }
 
 pub numbers_are : (e f : Entry) (moves legal keep kept : Option ℕ) → e ≡ f → moves ≡ legal → keep ≡ kept → the_numbers e moves keep ≡ the_numbers f legal kept
 numbers_are e f moves legal keep kept one two three = ap (λ (x : Entry). the_numbers x moves keep) one ∙ ap (λ m. the_numbers f m keep) two ∙ ap (λ k. the_numbers f legal k) three
-
--- ---- an object that is not closed
-
-pub json-front : (board : List ℕ) (e : Entry) → entry_json board e ≡ stem_of Json board e ++ 125 ∷ 10 ∷ []
-unfolding entry_json line_text stem_of
-json-front board e = ap (λ t. 123 ∷ t) (append_assoc (commas (map (member_text Json) (entry_members board e))) (125 ∷ []) (10 ∷ []))
-
-pub front_long : (front items : List ℕ) (n : ℕ) → n ≡ length items → items ≡ front ++ 125 ∷ 10 ∷ [] → 2 ≤ n
-front_long front items n long is = omega (arith, long, ap length is, length-append front (125 ∷ 10 ∷ []))
-
-pub front_taken : (front items : List ℕ) (n : ℕ) → n ≡ length items → items ≡ front ++ 125 ∷ 10 ∷ [] → take (n - 2) items ≡ front
-front_taken front items n long is =
-    let few : n - 2 ≡ length front = omega (arith, long, ap length is, length-append front (125 ∷ 10 ∷ [])) in
-    ap (λ k. take k items) few ∙ ap (take (length front)) is ∙ take-append_seam front (125 ∷ 10 ∷ [])
 
 -- the same lines by other names of the level and of what is wanted
 pub asked-lines : (images : List Image) (level other : ℕ) (wanted given : Wanted) (before after : Option (List ℕ)) → level ≡ other → wanted ≡ given → AppendsWanted images level wanted before after

@@ -1,5 +1,5 @@
 -- The numbers of boards of all values, of all distances, of all pairs of numbers, and of those won, even and lost come to the level's size.
-use Rattle.std.proofs.Common.{◌≡◌, ◌≢◌, ℕ, zero, suc, ◌+◌, ◌-◌, ◌==◌, ◌<◌, ◌≤◌, Bool, true, false, cond, List, [], ◌∷◌, length, int_lt, take, get_or, count_by, sum, All, neg_ℤ, ◌≤ℤ◌, Option, Some, None, slice_get, ℤ, pos, ◌-ℤ◌, negsuc, refl, sym, ◌∙◌, ap, subst, arith}
+use Rattle.std.proofs.Common.{◌≡◌, ◌≢◌, ℕ, zero, suc, ◌+◌, ◌-◌, ◌==◌, ◌<◌, ◌≤◌, Bool, true, false, cond, List, [], ◌∷◌, length, int_lt, take, get_or, count_by, fold, max, sum, All, neg_ℤ, ◌≤ℤ◌, Option, Some, None, slice_get, ℤ, pos, ◌-ℤ◌, negsuc, refl, sym, ◌∙◌, ap, subst, arith}
 use Rattle.std.proofs.lemmas.Int.{ints}
 use Rattle.std.proofs.lemmas.List.{length-map, length-take-le}
 use Rattle.std.proofs.lemmas.List.Elements.{All-from_get_or}
@@ -12,10 +12,10 @@ use Rattle.awari_board.proofs.Keeping.{sum-from_IsMove}
 use Rattle.awari_board.proofs.Moving.{IsMove-from_tests}
 use Rattle.awari_board.specs.Rules.{IsBoard, captured, next_board}
 use Rattle.awari_board.specs.Tests.{is_legal}
-use Rattle.awari_facts.specs.Facts.{captures_by, gained_by, gains, gains_in, keeping_moves, legal_moves, own_pits}
+use Rattle.awari_facts.specs.Facts.{captured_by, captures_by, gained_by, gains, gains_in, keeping_moves, largest_capture, legal_moves, most_captured, own_pits}
 use Rattle.awari_facts.specs.Numbers.{number_in, or_less}
 use Rattle.awari_queries.specs.declared.columns.Column.{Column}
-use Rattle.awari_queries.specs.declared.columns.Column.TheVariants.{Rank, Value, Distance, Plan, Captures, Moves, Keep}
+use Rattle.awari_queries.specs.declared.columns.Column.TheVariants.{Rank, Value, Distance, Plan, Captures, Greedy, Moves, Keep}
 use Rattle.awari_queries.specs.declared.columns.Pair.{Pair}
 use Rattle.awari_rank.proofs.Counting.{total_same}
 use Rattle.awari_rank.proofs.Ranking.{listed_board}
@@ -72,6 +72,28 @@ captures-few board (Some x) whole few = go (is_legal board x) refl
         few-captured (sum (next_board board x)) (captured board x) (sum board)
         (sum-from_IsMove board x (captured board x) (next_board board x) whole.pits (IsMove-from_tests board x (captured board x) (next_board board x) e refl refl)) few
     go false e = tt
+
+-- the most of numbers of at most m
+fold-few : (f : ℕ → ℕ) (xs : List ℕ) (most m : ℕ) → ((x : ℕ) → f x ≤ m) → most ≤ m → fold (λ n x. max n (f x)) most xs ≤ m
+fold-few f [] most m each few = few
+fold-few f (x ∷ xs) most m each few = fold-few f xs (max most (f x)) m each (max-few most (f x) m few (each x))
+  where
+    max-few : (a b m : ℕ) → a ≤ m → b ≤ m → max a b ≤ m
+    max-few a b m one other = grind (arith, nat_tests)
+
+largest-few : (board : List ℕ) → IsBoard board → sum board ≤ 24 → IfSome (largest_capture board) (λ n. n ≤ 24)
+largest-few board whole few = go (most_captured board == 0) (fold-few (captured_by board) own_pits 0 24 each (omega arith))
+  where
+    each : (x : ℕ) → captured_by board x ≤ 24
+    each x = one (is_legal board x) refl
+      where
+        one : (b : Bool) → is_legal board x ≡ b → cond b (captured board x) 0 ≤ 24
+        one true e = subst (λ b. IfSome (cond b (Some (captured board x)) None) (λ n. n ≤ 24)) e (captures-few board (Some x) whole few)
+        one false e = omega arith
+
+    go : (b : Bool) → most_captured board ≤ 24 → IfSome (cond b None (Some (most_captured board))) (λ n. n ≤ 24)
+    go true most = tt
+    go false most = most
 
 own-plan : (plan : Option ℕ) → IfSome plan (λ x. x < 6) → IfSome plan (λ x. x ≤ 5)
 own-plan None own = tt
@@ -148,6 +170,9 @@ module _ (images : List Image) (image : Image) (level : ℕ) (shelf : IsShelf im
   placed-on Captures board counted whole stones =
       let (j, below, is) = less-place (captures_by board (entry_of images board).plan) 24 (captures-few board (entry_of images board).plan whole (omega (arith, low, stones))) in
       placed images image.limit Captures board j below is
+  placed-on Greedy board counted whole stones =
+      let (j, below, is) = less-place (largest_capture board) 24 (largest-few board whole (omega (arith, low, stones))) in
+      placed images image.limit Greedy board j below is
   placed-on Moves board counted whole stones =
       placed images image.limit Moves board (legal_moves board) (few-moves (legal_moves board) (length own_pits) (count_by-le-length (is_legal board) own_pits) refl) (counted-from_0 (legal_moves board))
   placed-on Keep board counted whole stones =

@@ -10,11 +10,13 @@ use Rattle.awari_rank.specs.Tuples.{tuples}
 use Rattle.awari_table.specs.Images.{entry_of}
 use Rattle.awari_table.specs.declared.TheConstants.{HIGHEST_LEVEL}
 use Rattle.awari_table.specs.declared.images.Image.{Image}
-use Rattle.awari_levels.specs.Listing.{board_lines, header_of, stem_of, wanted_boards}
+use Rattle.awari_levels.specs.Listing.{board_lines, header_of, wanted_boards}
 use Rattle.awari_facts.specs.Loads.{HasLevel}
 use Rattle.awari_facts.specs.Sources.{IsSaidOf}
 use Rattle.awari_queries.specs.Boards.{AreAskedFor, HasNoSpan}
 use Rattle.awari_members.specs.Forms.{form_of}
+use Rattle.awari_members.specs.Members.{row_text}
+use Rattle.awari_shown.specs.Json.{entry_members}
 use Rattle.awari_queries.specs.Orders.{AsksForOrder, HasNoOrder}
 use Rattle.awari_queries.specs.declared.boards.BoardsQuery.{BoardsQuery}
 use Rattle.awari_members.specs.declared.forms.Form.TheVariants.{Text}
@@ -72,10 +74,10 @@ abbrev pub PrintsBoardsBy : Bool → (ℕ → Option (Option (List ℕ))) → Bo
 PrintsBoardsBy false = PrintsBoards
 PrintsBoardsBy true = PrintsBoardsSaid
 
--- a board, its entry, and a line feed (10), for each board of a level: `tuples 12 level` are the boards with this many stones in
+-- a row of a board and its entry, and a line feed (10), for each board of a level: `tuples 12 level` are the boards with this many stones in
 -- lexicographic order
 unfoldable pub level_lines : List Image → ℕ → List ℕ
-level_lines images level = flat_map (λ board. stem_of Text board (entry_of images board) ++ 10 ∷ []) (tuples 12 level)
+level_lines images level = flat_map (λ board. row_text Text (entry_members board (entry_of images board)) ++ 10 ∷ []) (tuples 12 level)
 
 -- those of all levels
 abbrev pub all_lines : List Image → List ℕ

@@ -1,57 +1,28 @@
 -- The commands `boards` and `text --boards`: which boards of a level are wanted, and what is printed of them.
 use Rattle.std.specs.Prelude.{◌≡◌, ℕ, ◌+◌, ◌%◌, ◌==◌, nat_lt, Bool, true, false, not, ◌&&◌, ◌||◌, if◌then◌else◌, List, ◌++◌, ◌∷◌, [], length, filter, map, codes, pos, Option, Some, None, ℤ}
 use Rattle.core.specs.Option.{is_some}
-use Rattle.std.specs.Fmt.{decimal, signed_decimal}
 use Rattle.std.specs.Io.KnownBytes.{Appends}
 use Rattle.std.specs.List.{flat_map}
 use Rattle.awari_board.specs.Rules.{own_stones}
-use Rattle.awari_board.specs.Text.{text_of}
-use Rattle.awari_facts.specs.Facts.{captures_by, gains_in, keeping_moves, greediest, legal_moves, lost_by, moves_gaining, waits}
+use Rattle.awari_facts.specs.Facts.{captures_by, gains_in, keeping_moves, greediest, largest_capture, legal_moves, lost_by, moves_gaining, waits}
 use Rattle.awari_facts.specs.Numbers.{is_own, number_in}
 use Rattle.awari_facts.specs.declared.looks.Gained.{Gained}
 use Rattle.awari_queries.specs.Draws.{draw_of, taken}
 use Rattle.awari_queries.specs.Holding.{first, sorted}
 use Rattle.awari_queries.specs.Orders.{key_of}
 use Rattle.awari_queries.specs.Spans.{has, is_in}
-use Rattle.awari_members.specs.Json.{commas, member}
-use Rattle.awari_members.specs.Members.{member_text}
+use Rattle.awari_members.specs.Members.{Named, names_text, number, row_text}
 use Rattle.awari_shown.specs.Json.{entry_members}
 use Rattle.awari_members.specs.declared.forms.Form.{Form}
 use Rattle.awari_members.specs.declared.forms.Form.TheVariants.{Text, Csv, Json}
 use Rattle.awari_queries.specs.declared.boards.Spans.{Spans}
 use Rattle.awari_queries.specs.declared.orders.Order.{Order}
 use Rattle.awari_rank.specs.Tuples.{tuples}
-use Rattle.awari_table.specs.Images.{entry_of, greatest_dist}
-use Rattle.awari_table.specs.Spelling.{plan_text}
+use Rattle.awari_table.specs.Images.{entry_of, greatest_dist, no_entry}
 use Rattle.awari_table.specs.declared.images.Entry.{Entry}
 use Rattle.awari_table.specs.declared.images.Image.{Image}
 use Rattle.awari_levels.specs.declared.batches.LineNumbers.{LineNumbers}
 use Rattle.awari_levels.specs.declared.wanted.Wanted.{Wanted}
-
--- the plan's pit, or nothing for none
-abbrev pub plan_field : Option ℕ → List ℕ
-plan_field None = []
-plan_field (Some pit) = decimal pit
-
--- The line of a board up to the distance: with spaces (32); of CSV with the board in quotes (34), and commas (44); or an object
--- (123) that is not closed.
-unfoldable pub stem_of : Form → List ℕ → Entry → List ℕ
-stem_of Text board e = text_of board ++ 32 ∷ (signed_decimal e.value ++ 32 ∷ (plan_text e.plan ++ 32 ∷ decimal e.dist))
-stem_of Csv board e = 34 ∷ (text_of board ++ 34 ∷ 44 ∷ (signed_decimal e.value ++ 44 ∷ (plan_field e.plan ++ 44 ∷ decimal e.dist)))
-stem_of Json board e = 123 ∷ commas (map (member_text Json) (entry_members board e))
-
--- a number on request behind it: behind a space, a comma, or as a member of this name
-unfoldable pub added_text : Form → List ℕ → Option ℕ → List ℕ
-added_text form name None = []
-added_text Text name (Some n) = 32 ∷ decimal n
-added_text Csv name (Some n) = 44 ∷ decimal n
-added_text Json name (Some n) = 44 ∷ member name (decimal n)
-
--- the end: a line feed (10), behind the object's brace (125)
-unfoldable pub end_of : Form → List ℕ
-end_of Text = 10 ∷ []
-end_of Csv = 10 ∷ []
-end_of Json = 125 ∷ 10 ∷ []
 
 -- the numbers of a board's line: its entry, and how many moves are legal and keep its value, if they are asked for
 abbrev pub numbers_of : Wanted → List Image → List ℕ → LineNumbers
@@ -61,21 +32,30 @@ numbers_of wanted images board = record {
   keep = if wanted.with_keep then Some (keeping_moves images board) else None;
 }
 
--- the line of a board
+-- a number as a member, if it is asked for
+abbrev pub asked_member : List ℕ → Option ℕ → List Named
+asked_member name None = []
+asked_member name (Some n) = number name n ∷ []
+
+-- the members of a board's line: those of its entry, and the numbers that are asked for
+abbrev pub line_members : List ℕ → LineNumbers → List Named
+line_members board n = entry_members board n.entry ++ (asked_member (codes "moves") n.moves ++ asked_member (codes "keep") n.keep)
+
+-- its line, with its line feed (10)
 abbrev pub line_of : Form → List ℕ → LineNumbers → List ℕ
-line_of form board n = stem_of form board n.entry ++ (added_text form (codes "moves") n.moves ++ (added_text form (codes "keep") n.keep ++ end_of form))
+line_of form board n = row_text form (line_members board n) ++ 10 ∷ []
 
 abbrev pub board_line : Wanted → List Image → List ℕ → List ℕ
 board_line wanted images board = line_of wanted.form board (numbers_of wanted images board)
 
--- the name of a column on request
-abbrev pub added_name : Bool → List ℕ → List ℕ
-added_name added name = if added then 44 ∷ name else []
+-- numbers of no board, for the names that lines with those that are asked for have
+abbrev pub names_asked : Bool → Bool → LineNumbers
+names_asked moves keep = record { entry = no_entry; moves = if moves then Some 0 else None; keep = if keep then Some 0 else None }
 
--- what stands above the lines: of CSV the names of the columns
+-- what stands above the lines: of CSV the names of their members
 unfoldable pub header_text : Form → Bool → Bool → List ℕ
 header_text Text moves keep = []
-header_text Csv moves keep = codes "board,value,plan,distance" ++ (added_name moves (codes "moves") ++ (added_name keep (codes "keep") ++ 10 ∷ []))
+header_text Csv moves keep = names_text (line_members [] (names_asked moves keep)) ++ 10 ∷ []
 header_text Json moves keep = []
 
 abbrev pub header_of : Wanted → List ℕ
@@ -97,10 +77,14 @@ fits spans e = is_in spans.value e.value && (is_in spans.distance (pos e.dist) &
 abbrev pub is_of_kind : Wanted → ℕ → Bool
 is_of_kind wanted moves = not (wanted.ended && nat_lt 0 moves) && not (wanted.running && moves == 0)
 
--- what the rules say of the board is as it is asked for: its stones, its moves, and what the plan captures
+-- what the plan captures, and the largest capture, are in the spans that are asked for
+unfoldable pub takes : Spans → List ℕ → Entry → Bool
+takes spans board e = has spans.captures (captures_by board e.plan) && has spans.greedy (largest_capture board)
+
+-- what the rules say of the board is as it is asked for: its stones, its moves, and what they capture
 unfoldable pub suits : Wanted → List ℕ → Entry → Bool
 suits wanted board e =
-    is_in wanted.spans.side (pos (own_stones board)) && (is_in wanted.spans.moves (pos (legal_moves board)) && (has wanted.spans.captures (captures_by board e.plan)
+    is_in wanted.spans.side (pos (own_stones board)) && (is_in wanted.spans.moves (pos (legal_moves board)) && (takes wanted.spans board e
     && is_of_kind wanted (legal_moves board)))
 
 -- what these moves gain is as it is asked for, on a board of this value: how many keep it, and what the largest capture throws away

@@ -1,15 +1,16 @@
 -- The numbers that a column may have, each by its place among them.
 use Rattle.std.specs.Prelude.{ℕ, ◌+◌, ℤ, pos, ◌-ℤ◌}
 use Rattle.awari_queries.specs.declared.columns.Column.{Column}
-use Rattle.awari_queries.specs.declared.columns.Column.TheVariants.{Rank, Value, Distance, Plan, Captures, Moves, Keep}
+use Rattle.awari_queries.specs.declared.columns.Column.TheVariants.{Rank, Value, Distance, Plan, Captures, Greedy, Moves, Keep}
 
--- how far below 0 the least number is: -1 stands for no plan
+-- how far below 0 the least number is: -1 stands for no plan, or for no capture
 abbrev pub below_of : Column → ℕ
 below_of Rank = 0
 below_of Value = 128
 below_of Distance = 0
 below_of Plan = 1
 below_of Captures = 1
+below_of Greedy = 1
 below_of Moves = 0
 below_of Keep = 0
 
@@ -21,6 +22,7 @@ width_of limit Value = 256
 width_of limit Distance = limit + 1
 width_of limit Plan = 7
 width_of limit Captures = 26
+width_of limit Greedy = 26
 width_of limit Moves = 7
 width_of limit Keep = 7
 

@@ -7,16 +7,17 @@ use Rattle.awari_members.specs.declared.forms.Form.{Form}
 use Rattle.awari_members.specs.declared.forms.Form.TheVariants.{Text, Csv, Json}
 use Rattle.awari_queries.specs.Columns.{name_of}
 use Rattle.awari_queries.specs.declared.columns.Column.{Column}
-use Rattle.awari_queries.specs.declared.columns.Column.TheVariants.{Rank, Value, Distance, Plan, Captures, Moves, Keep}
+use Rattle.awari_queries.specs.declared.columns.Column.TheVariants.{Rank, Value, Distance, Plan, Captures, Greedy, Moves, Keep}
 use Rattle.awari_levels.specs.Ranges.{number_at}
 
--- there is no such number: -1 stands for no plan
+-- there is no such number: -1 stands for no plan, or for no capture
 abbrev pub is_none : Column → ℤ → Bool
 is_none Rank n = false
 is_none Value n = false
 is_none Distance n = false
 is_none Plan n = int_lt n (pos 0)
 is_none Captures n = int_lt n (pos 0)
+is_none Greedy n = int_lt n (pos 0)
 is_none Moves n = false
 is_none Keep n = false
 

@@ -1,29 +1,29 @@
 //! Lines of boards, written many at once.
 
-ghost use Rattle.std.specs.Prelude.{◌≡◌, ◌≤◌, ◌+◌, ◌++◌, [], true, length};
+ghost use Rattle.std.specs.Prelude.{◌≡◌, ◌<◌, ◌≤◌, ◌+◌, ◌++◌, [], true, length, map};
 ghost use Rattle.arrayvec.specs.ArrayVec.{array_vec_len};
-ghost use Rattle.awari_members.specs.declared.forms.Form.TheVariants.{Csv, Text};
-ghost use Rattle.awari_levels.specs.Listing.{added_text, end_of, header_text, line_of, stem_of};
+ghost use Rattle.awari_members.specs.Members.{room_of, said};
+ghost use Rattle.awari_levels.specs.Listing.{asked_member, header_text, line_members, line_of, names_asked};
 ghost use Rattle.awari_levels.specs.Batches.{Passes};
 
 use arrayvec::ArrayVec;
 use awari_board::Board;
-use awari_members::Form;
-use awari_shown::entry_json;
-use awari_table::{Entry, TextLine, push_number, push_signed};
+use awari_members::{AnswerText, Form, Member, push_names, push_row};
+use awari_shown::entry_members;
+use awari_table::Entry;
 use std::io::Write;
 
 /// How many bytes of lines are kept before they are written.
 const ROOM: usize = 4096;
 
-/// Room for what `entry_json` gives.
-const STEM: usize = 1400;
-
-/// Room for one line: its stem, two numbers with their names, and its end.
-const LINE: usize = STEM + 40;
+/// Room for one line.
+const LINE: usize = 256;
 
 /// Lines that are not written yet.
 pub(crate) type Batch = ArrayVec<u8, ROOM>;
+
+/// The members of a board's line.
+type LineMembers = ArrayVec<Member<'static>, 6>;
 
 /// Puts text behind lines. Condition: there is room for it.
 fn push_text(batch: &mut Batch, text: &[u8])
@@ -63,6 +63,33 @@ pub(crate) struct LineNumbers {
     pub(crate) keep: Option<u8>,
 }
 
+/// Puts the member of a number behind others, if the number is asked for. Condition: there is room for it.
+fn push_asked(members: &mut LineMembers, name: &'static str, number: Option<u8>)
+    requires room { array_vec_len members.old < 6 }
+    requires name { length name.now ≤ 5 }
+    ensures items { map said members.new.items ≡ map said members.old.items ++ asked_member name.now number }
+    ensures len { array_vec_len members.new ≤ array_vec_len members.old + 1 }
+    ensures room { room_of members.new.items ≤ room_of members.old.items + 29 }
+{
+    if let Some(number) = number {
+        members.push(Member::number(name, u64::from(number)));
+    }
+}
+
+/// The members of a board's line.
+fn members_of(board: &Board, numbers: LineNumbers) -> LineMembers
+    ensures said { map said result.items ≡ line_members board.now numbers }
+    ensures room { room_of result.items ≤ 194 }
+{
+    let mut members = LineMembers::new();
+    let Ok(()) = members.try_extend_from_slice(&entry_members(board, numbers.entry)) else {
+        unreachable!()
+    };
+    push_asked(&mut members, "moves", numbers.moves);
+    push_asked(&mut members, "keep", numbers.keep);
+    members
+}
+
 /// Lines that have what stands above those of boards.
 #[tactic(auto, unfolding(crate::specs::Listing::header_text))]
 pub(crate) fn new_batch(form: Form, moves: bool, keep: bool) -> Batch
@@ -72,14 +99,18 @@ pub(crate) fn new_batch(form: Form, moves: bool, keep: bool) -> Batch
     if form != Form::Csv {
         return batch;
     }
-    push_text(&mut batch, b"board,value,plan,distance");
-    if moves {
-        push_text(&mut batch, b",moves");
-    }
-    if keep {
-        push_text(&mut batch, b",keep");
-    }
-    push_text(&mut batch, b"\n");
+    let numbers = LineNumbers {
+        entry: Entry::NONE,
+        moves: moves.then_some(0),
+        keep: keep.then_some(0),
+    };
+    let mut names = AnswerText::new();
+    push_names(
+        &mut names,
+        members_of(&Board::new([0; 12]), numbers).as_slice(),
+    );
+    names.push(b'\n');
+    push_text(&mut batch, names.as_slice());
     batch
 }
 
@@ -97,102 +128,17 @@ pub(crate) fn push_board<W: Write>(
     if !make_room(batch, LINE, writer) {
         return false;
     }
-    push_stem(batch, form, board, numbers.entry);
-    push_added(batch, form, b"moves", numbers.moves);
-    push_added(batch, form, b"keep", numbers.keep);
-    push_end(batch, form);
+    push_line(batch, form, board, numbers);
     true
 }
 
-/// Puts a board and its entry behind lines. Condition: there is room for a stem.
-#[tactic(auto, unfolding(crate::specs::Listing::stem_of))]
-fn push_stem(batch: &mut Batch, form: Form, board: &Board, entry: Entry)
-    requires { array_vec_len batch.old + STEM ≤ ROOM }
-    ensures items { batch.new.items ≡ batch.old.items ++ stem_of form board.now entry }
-    ensures len { array_vec_len batch.new ≤ array_vec_len batch.old + STEM }
+/// Puts the line of a board behind others. Condition: there is room for a line.
+fn push_line(batch: &mut Batch, form: Form, board: &Board, numbers: LineNumbers)
+    requires { array_vec_len batch.old + LINE ≤ ROOM }
+    ensures { batch.new.items ≡ batch.old.items ++ line_of form board.now numbers }
 {
-    match form {
-        Form::Text => push_text(batch, text_stem(board, entry).as_slice()),
-        Form::Csv => push_text(batch, csv_stem(board, entry).as_slice()),
-        Form::Json => {
-            let line = entry_json(board, entry);
-            // Its brace and line feed are the line's end.
-            push_text(batch, &line.as_slice()[..line.len() - 2]);
-        }
-    }
-}
-
-/// Puts a number on request behind a line. Condition: there is room for 16 bytes.
-#[tactic(auto, unfolding(crate::specs::Listing::added_text), using(awari_streams::proofs::Digits::three_digits))]
-fn push_added(batch: &mut Batch, form: Form, name: &[u8], number: Option<u8>)
-    requires room { array_vec_len batch.old + 16 ≤ ROOM }
-    requires name { length name.now ≤ 5 }
-    ensures items { batch.new.items ≡ batch.old.items ++ added_text form name.now number }
-    ensures len { array_vec_len batch.new ≤ array_vec_len batch.old + 16 }
-{
-    let Some(number) = number else {
-        return;
-    };
-    match form {
-        Form::Text => push_text(batch, b" "),
-        Form::Csv => push_text(batch, b","),
-        Form::Json => {
-            push_text(batch, b",\"");
-            push_text(batch, name);
-            push_text(batch, b"\":");
-        }
-    }
-    let mut digits = TextLine::new();
-    push_number(&mut digits, u64::from(number));
-    push_text(batch, digits.as_slice());
-}
-
-/// Puts the end of a line behind it. Condition: there is room for two bytes.
-#[tactic(auto, unfolding(crate::specs::Listing::end_of))]
-fn push_end(batch: &mut Batch, form: Form)
-    requires { array_vec_len batch.old + 2 ≤ ROOM }
-    ensures { batch.new.items ≡ batch.old.items ++ end_of form }
-{
-    match form {
-        Form::Text | Form::Csv => push_text(batch, b"\n"),
-        Form::Json => push_text(batch, b"}\n"),
-    }
-}
-
-/// The line of a board and its entry, with spaces.
-#[tactic(auto, unfolding(crate::specs::Listing::stem_of), using(awari_streams::proofs::Digits::ten_digits, awari_streams::proofs::Digits::three_digits))]
-fn text_stem(board: &Board, entry: Entry) -> TextLine
-    ensures { result.items ≡ stem_of Text board.now entry }
-{
-    let mut line = TextLine::new();
-    awari_table::push_text(&mut line, board.print().as_slice());
-    awari_table::push_text(&mut line, b" ");
-    push_signed(&mut line, i16::from(entry.value));
-    awari_table::push_text(&mut line, b" ");
-    match entry.plan {
-        None => awari_table::push_text(&mut line, b"-"),
-        Some(pit) => push_number(&mut line, u64::from(pit)),
-    }
-    awari_table::push_text(&mut line, b" ");
-    push_number(&mut line, u64::from(entry.dist));
-    line
-}
-
-/// The line of a board and its entry, with commas.
-#[tactic(auto, unfolding(crate::specs::Listing::stem_of), using(awari_streams::proofs::Digits::ten_digits, awari_streams::proofs::Digits::three_digits))]
-fn csv_stem(board: &Board, entry: Entry) -> TextLine
-    ensures { result.items ≡ stem_of Csv board.now entry }
-{
-    let mut line = TextLine::new();
-    awari_table::push_text(&mut line, b"\"");
-    awari_table::push_text(&mut line, board.print().as_slice());
-    awari_table::push_text(&mut line, b"\",");
-    push_signed(&mut line, i16::from(entry.value));
-    awari_table::push_text(&mut line, b",");
-    if let Some(pit) = entry.plan {
-        push_number(&mut line, u64::from(pit));
-    }
-    awari_table::push_text(&mut line, b",");
-    push_number(&mut line, u64::from(entry.dist));
-    line
+    let mut line = AnswerText::new();
+    push_row(&mut line, form, members_of(board, numbers).as_slice());
+    line.push(b'\n');
+    push_text(batch, line.as_slice());
 }

@@ -32,6 +32,7 @@ const ALL: Wanted = Wanted {
         distance: None,
         plan: None,
         captures: None,
+        greedy: None,
         side: None,
         moves: None,
         keep: None,

@@ -11,7 +11,7 @@ fn below_of(column: Column) -> i64
 {
     match column {
         Column::Value => 128,
-        Column::Plan | Column::Captures => 1,
+        Column::Plan | Column::Captures | Column::Greedy => 1,
         Column::Rank | Column::Distance | Column::Moves | Column::Keep => 0,
     }
 }
@@ -25,7 +25,7 @@ pub(crate) fn width_of(column: Column, limit: u32) -> usize
         Column::Rank => 0,
         Column::Value => 256,
         Column::Distance => limit as usize + 1,
-        Column::Captures => 26,
+        Column::Captures | Column::Greedy => 26,
         Column::Plan | Column::Moves | Column::Keep => 7,
     }
 }

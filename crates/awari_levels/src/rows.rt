@@ -18,7 +18,7 @@ fn is_none(column: Column, number: i64) -> bool
     ensures { result ≡ is_none column number }
 {
     match column {
-        Column::Plan | Column::Captures => number < 0,
+        Column::Plan | Column::Captures | Column::Greedy => number < 0,
         Column::Rank | Column::Value | Column::Distance | Column::Moves | Column::Keep => false,
     }
 }

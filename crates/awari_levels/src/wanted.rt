@@ -10,11 +10,11 @@ ghost use Rattle.awari_table.specs.Images.{entry_of};
 ghost use Rattle.awari_table.specs.declared.TheConstants.{HIGHEST_LEVEL};
 ghost use Rattle.awari_table.specs.declared.images.Entry.{Entry as AnEntry};
 ghost use Rattle.awari_table.specs.declared.images.Image.{Image};
-ghost use Rattle.awari_levels.specs.Listing.{IsAlone, asks_moves, fits, is_of_kind, is_weighed, is_within, key_if, suits, weighs};
+ghost use Rattle.awari_levels.specs.Listing.{IsAlone, asks_moves, fits, is_of_kind, is_weighed, is_within, key_if, suits, takes, weighs};
 
 use awari_facts::{
-    Gains, Levels, Seen, gains_of, is_own, legal_moves, levels_in, moves_gaining, number_of,
-    own_number, own_stones, plan_captures, trap_by, value_on, waits,
+    Gains, Levels, Seen, gains_of, is_own, largest_capture, legal_moves, levels_in, moves_gaining,
+    number_of, own_number, own_stones, plan_captures, trap_by, value_on, waits,
 };
 use awari_members::Form;
 use awari_packed::PackedBoard;
@@ -76,7 +76,18 @@ fn suits(wanted: &Wanted, board: &PackedBoard, entry: Entry) -> bool
     if !is_in(wanted.spans.moves, i64::from(moves)) {
         return false;
     }
-    has(wanted.spans.captures, plan_captures(board, entry.plan)) && is_of_kind(wanted, moves)
+    takes(&wanted.spans, board, entry) && is_of_kind(wanted, moves)
+}
+
+/// Whether what the plan captures, and the largest capture, are in the spans.
+#[tactic(auto, unfolding(crate::specs::Listing::takes))]
+fn takes(spans: &Spans, board: &PackedBoard, entry: Entry) -> bool
+    ensures { result ≡ takes spans.now board.now entry }
+{
+    if !has(spans.captures, plan_captures(board, entry.plan)) {
+        return false;
+    }
+    spans.greedy.is_none() || has(spans.greedy, largest_capture(board))
 }
 
 /// Whether a board with this many legal moves has ended or has not, if that is wanted.
@@ -90,17 +101,18 @@ fn is_of_kind(wanted: &Wanted, moves: u8) -> bool
 }
 
 /// Whether something is wanted that the rules say of a board.
-#[tactic(auto, unfolding(crate::specs::Listing::suits))]
+#[tactic(auto, unfolding(crate::specs::Listing::suits, crate::specs::Listing::takes))]
 fn asks_rules(wanted: &Wanted) -> bool
     ensures { result ≡ false → (board : List ℕ) (e : AnEntry) → suits wanted.now board e ≡ true }
 {
     let Spans {
         captures,
+        greedy,
         side,
         moves,
         ..
     } = wanted.spans;
-    let of_rules = side.is_some() || moves.is_some() || captures.is_some();
+    let of_rules = side.is_some() || moves.is_some() || captures.is_some() || greedy.is_some();
     of_rules || wanted.ended || wanted.running
 }
 

@@ -1,5 +1,5 @@
 -- Lines of members, by the parts that are written.
-use Rattle.std.proofs.Common.{◌≡◌, ℕ, ◌+◌, ◌<◌, suc, add-one, drop, get_or, length, sym, List, [], ◌∷◌, ◌++◌, codes, map, ap, append-nil, append_assoc, ◌∙◌, refl}
+use Rattle.std.proofs.Common.{◌≡◌, ◌⊎◌, inl, inr, ℕ, ◌+◌, ◌<◌, suc, add-one, drop, get_or, length, sym, List, [], ◌∷◌, ◌++◌, codes, map, ap, append-nil, append_assoc, ◌∙◌, refl}
 use Rattle.std.proofs.Math.Seq.{drop-cons}
 use Rattle.std.specs.Fmt.{decimal}
 use Rattle.awari_members.specs.declared.lines.Member.{Member}
@@ -7,7 +7,7 @@ use Rattle.std.specs.List.{flat_map}
 use Rattle.awari_members.specs.Json.{array, commas}
 use Rattle.awari_members.specs.declared.forms.Form.{Form}
 use Rattle.awari_members.specs.declared.forms.Form.TheVariants.{Text, Csv, Json}
-use Rattle.awari_members.specs.Members.{Named, later_pits, line_text, mark_of, marked, member_text, pits_text, said, spaced}
+use Rattle.awari_members.specs.Members.{Named, later_pits, line_text, mark_of, marked, marked_by, member_text, named, names_text, pits_text, row_text, said, spaced, valued}
 
 later_pits-are : (pits : List ℕ) → later_pits pits ≡ flat_map (λ t. 44 ∷ t) (map decimal pits)
 later_pits-are [] = refl
@@ -20,30 +20,47 @@ pits-are (pit ∷ pits) = ap (λ (t : List ℕ). decimal pit ++ t) (later_pits-a
 pub pits-array : (pits : List ℕ) → codes "[" ++ (pits_text pits ++ codes "]") ≡ array (map decimal pits)
 pits-array pits = ap (λ (t : List ℕ). 91 ∷ (t ++ 93 ∷ [])) (pits-are pits)
 
--- members behind a mark that stands between all
-later-are : (form : Form) (mark : ℕ) (members : List Named) → mark_of form ≡ mark ∷ [] → marked form (mark ∷ []) members ≡ flat_map (λ t. mark ∷ t) (map (member_text form) members)
-later-are form mark [] is = refl
-later-are form mark (m ∷ members) is = ap (λ (t : List ℕ). (mark ∷ member_text form m) ++ t) (ap (λ s. marked form s members) is ∙ later-are form mark members is)
+-- what is shown behind a mark that stands between all
+later-are : (shown : Named → List ℕ) (mark : ℕ) (members : List Named) → marked_by shown (mark ∷ []) (mark ∷ []) members ≡ flat_map (λ t. mark ∷ t) (map shown members)
+later-are shown mark [] = refl
+later-are shown mark (m ∷ members) = ap (λ (t : List ℕ). (mark ∷ shown m) ++ t) (later-are shown mark members)
 
-commas-are : (form : Form) (members : List Named) → mark_of form ≡ 44 ∷ [] → marked form [] members ≡ commas (map (member_text form) members)
-commas-are form [] is = refl
-commas-are form (m ∷ members) is = ap (λ (t : List ℕ). member_text form m ++ t) (ap (λ s. marked form s members) is ∙ later-are form 44 members is)
+commas-are : (shown : Named → List ℕ) (members : List Named) → marked_by shown (44 ∷ []) [] members ≡ commas (map shown members)
+commas-are shown [] = refl
+commas-are shown (m ∷ members) = ap (λ (t : List ℕ). shown m ++ t) (later-are shown 44 members)
 
-spaces-are : (members : List Named) → marked Text [] members ≡ spaced (map (member_text Text) members)
-spaces-are [] = refl
-spaces-are (m ∷ members) = ap (λ (t : List ℕ). member_text Text m ++ t) (later-are Text 32 members refl)
+spaces-are : (shown : Named → List ℕ) (members : List Named) → marked_by shown (32 ∷ []) [] members ≡ spaced (map shown members)
+spaces-are shown [] = refl
+spaces-are shown (m ∷ members) = ap (λ (t : List ℕ). shown m ++ t) (later-are shown 32 members)
 
 pub text-line : (members : List Named) → marked Text [] members ≡ line_text Text members
 unfolding line_text
-text-line members = spaces-are members
+text-line members = spaces-are (member_text Text) members
 
 pub csv-line : (members : List Named) → marked Csv [] members ≡ line_text Csv members
 unfolding line_text
-csv-line members = commas-are Csv members refl
+csv-line members = commas-are (member_text Csv) members
 
 pub json-line : (members : List Named) → codes "{" ++ (marked Json [] members ++ codes "}") ≡ line_text Json members
 unfolding line_text
-json-line members = ap (λ (t : List ℕ). 123 ∷ (t ++ 125 ∷ [])) (commas-are Json members refl)
+json-line members = ap (λ (t : List ℕ). 123 ∷ (t ++ 125 ∷ [])) (commas-are (member_text Json) members)
+
+-- values alone, with spaces or commas, and an object
+pub value-row : (form : Form) (members : List Named) → (form ≡ Text) ⊎ (form ≡ Csv) → valued form [] members ≡ row_text form members
+unfolding row_text
+value-row Text members is = spaces-are (λ m. m.value Text) members
+value-row Csv members is = csv-line members
+value-row Json members (inl is) = cc
+value-row Json members (inr is) = cc
+
+pub json-row : (form : Form) (members : List Named) → form ≡ Json → codes "{" ++ (marked form [] members ++ codes "}") ≡ row_text form members
+unfolding row_text
+json-row Text members is = cc
+json-row Csv members is = cc
+json-row Json members is = json-line members
+
+pub names-row : (members : List Named) → named [] members ≡ names_text members
+names-row members = commas-are (λ m. m.name) members
 
 -- members behind members
 pub marked-append : (form : Form) (mark : List ℕ) (m : Named) (members others : List Named) → marked form mark (m ∷ members ++ others) ≡ marked form mark (m ∷ members) ++ marked form (mark_of form) others

@@ -20,6 +20,12 @@ abbrev pub string : List ℕ → Form → List ℕ
 string text Json = quoted text
 string text form = text
 
+-- a board, in quotes but in a line with spaces
+abbrev pub board_in : List ℕ → Form → List ℕ
+board_in pits Text = text_of pits
+board_in pits Csv = quoted (text_of pits)
+board_in pits Json = quoted (text_of pits)
+
 -- pits as an array
 abbrev pub pits_in : List ℕ → Form → List ℕ
 pits_in pits form = array (map decimal pits)
@@ -43,7 +49,7 @@ abbrev pub signed : List ℕ → ℤ → Named
 signed name n = record { name = name; value = λ form. signed_decimal n }
 
 abbrev pub board : List ℕ → List ℕ → Named
-board name pits = record { name = name; value = string (text_of pits) }
+board name pits = record { name = name; value = board_in pits }
 
 abbrev pub text : List ℕ → List ℕ → Named
 text name bytes = record { name = name; value = string bytes }
@@ -61,7 +67,7 @@ abbrev pub value_text : Value → Form → List ℕ
 value_text (value.Number n) = λ form. decimal n
 value_text (value.Signed n) = λ form. signed_decimal n
 value_text (value.Text text) = string text.now
-value_text (value.Board pits) = string (text_of pits)
+value_text (value.Board pits) = board_in pits
 value_text (value.Pits pits) = pits_in pits.now
 value_text (value.Truth b) = λ form. truth_text b
 value_text value.Missing = missing
@@ -86,6 +92,16 @@ line_text Text members = spaced (map (member_text Text) members)
 line_text Csv members = commas (map (member_text Csv) members)
 line_text Json members = object (map (member_text Json) members)
 
+-- A row of a table: values alone with spaces or commas, or an object.
+unfoldable pub row_text : Form → List Named → List ℕ
+row_text Text members = spaced (map (λ m. m.value Text) members)
+row_text Csv members = line_text Csv members
+row_text Json members = line_text Json members
+
+-- the names with commas, which stand above rows of CSV
+abbrev pub names_text : List Named → List ℕ
+names_text members = commas (map (λ m. m.name) members)
+
 -- the line that this number of boards gets, none if it is 0
 abbrev pub share_line : (ℕ → List ℕ) → ℕ → List ℕ
 share_line shown boards = if boards == 0 then [] else shown boards ++ 10 ∷ []
@@ -98,10 +114,21 @@ mark_of Text = codes " "
 mark_of Csv = codes ","
 mark_of Json = codes ","
 
--- members with those marks between them, behind this one
+-- what is shown of members, with a mark before the first, and another one between them
+abbrev pub marked_by : (Named → List ℕ) → List ℕ → List ℕ → List Named → List ℕ
+marked_by shown between mark [] = []
+marked_by shown between mark (m ∷ members) = mark ++ (shown m ++ marked_by shown between between members)
+
+-- members, or their values alone
 abbrev pub marked : Form → List ℕ → List Named → List ℕ
-marked form mark [] = []
-marked form mark (m ∷ members) = mark ++ (member_text form m ++ marked form (mark_of form) members)
+marked form mark members = marked_by (member_text form) (mark_of form) mark members
+
+abbrev pub valued : Form → List ℕ → List Named → List ℕ
+valued form mark members = marked_by (λ m. m.value form) (mark_of form) mark members
+
+-- names with commas
+abbrev pub named : List ℕ → List Named → List ℕ
+named mark members = marked_by (λ m. m.name) (codes ",") mark members
 
 -- a name, and what stands behind it
 abbrev pub name_in : Form → List ℕ → List ℕ

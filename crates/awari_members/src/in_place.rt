@@ -1,15 +1,16 @@
 //! Members put into a text in place, with no memory.
 
-ghost use Rattle.std.specs.Prelude.{◌≡◌, ◌≤◌, ◌+◌, ◌*◌, ◌++◌, length, map};
+ghost use Rattle.std.specs.Prelude.{◌≡◌, ◌≤◌, ◌+◌, ◌*◌, ◌++◌, [], length, map};
 ghost use Rattle.std.specs.Fmt.{decimal, signed_decimal};
 ghost use Rattle.arrayvec.specs.ArrayVec.{array_vec_len};
-ghost use Rattle.awari_members.specs.Json.{array, comma_before};
-ghost use Rattle.awari_members.specs.Members.{marked, member_text, name_in, room_of, said, string, value_text, width};
+ghost use Rattle.awari_members.specs.Json.{array, comma_before, quoted};
+ghost use Rattle.awari_members.specs.Members.{board_in, marked, member_text, name_in, names_text, room_of, row_text, said, string, value_text, valued, width};
 
 use crate::forms::Form;
 use crate::lines::{Member, mark_of};
 use crate::texts::{ANSWER_ROOM, AnswerText, push_bytes};
 use crate::values::{Value, missing, truth_text};
+use awari_board::Board;
 use awari_streams::{TextLine, push_number};
 
 /// Puts members in a form behind others, with `mark` before the first of them. Conditions: the mark has at most
@@ -25,6 +26,52 @@ pub fn push_members(text: &mut AnswerText, form: Form, mark: &[u8], members: &[M
         push_bytes(text, next);
         push_member(text, form, member);
         next = mark_of(form).as_bytes();
+    }
+}
+
+/// Puts members as a row of a table: their values alone with spaces or commas, or an object. Condition: there is
+/// room for the members and two bytes. It takes no memory.
+pub fn push_row(text: &mut AnswerText, form: Form, members: &[Member<'_>])
+    requires { array_vec_len text.old + (2 + room_of members.now) ≤ ANSWER_ROOM }
+    ensures items { text.new.items ≡ text.old.items ++ row_text form (map said members.now) }
+    ensures len { array_vec_len text.new ≤ array_vec_len text.old + (2 + room_of members.now) }
+{
+    match form {
+        Form::Text | Form::Csv => push_values(text, form, members),
+        Form::Json => {
+            text.push(b'{');
+            push_members(text, form, b"", members);
+            text.push(b'}');
+        }
+    }
+}
+
+/// Puts values alone, with marks between them.
+fn push_values(text: &mut AnswerText, form: Form, members: &[Member<'_>])
+    requires { array_vec_len text.old + room_of members.now ≤ ANSWER_ROOM }
+    ensures items { text.new.items ≡ text.old.items ++ valued form [] (map said members.now) }
+    ensures len { array_vec_len text.new ≤ array_vec_len text.old + room_of members.now }
+{
+    let mut next: &[u8] = b"";
+    for member in members {
+        push_bytes(text, next);
+        push_value(text, form, &member.value);
+        next = mark_of(form).as_bytes();
+    }
+}
+
+/// Puts the names of members with commas between them, as they stand above rows of CSV. Condition: there is room
+/// for the members. It takes no memory.
+pub fn push_names(text: &mut AnswerText, members: &[Member<'_>])
+    requires { array_vec_len text.old + room_of members.now ≤ ANSWER_ROOM }
+    ensures items { text.new.items ≡ text.old.items ++ names_text (map said members.now) }
+    ensures len { array_vec_len text.new ≤ array_vec_len text.old + room_of members.now }
+{
+    let mut next: &[u8] = b"";
+    for member in members {
+        push_bytes(text, next);
+        push_bytes(text, member.name.as_bytes());
+        next = b",";
     }
 }
 
@@ -67,10 +114,23 @@ fn push_value(text: &mut AnswerText, form: Form, value: &Value<'_>)
         Value::Number(number) => push_decimal(text, number),
         Value::Signed(number) => push_integer(text, number),
         Value::Text(word) => push_string_of(text, form, word.as_bytes()),
-        Value::Board(board) => push_string_of(text, form, board.print().as_slice()),
+        Value::Board(board) => push_board(text, form, board),
         Value::Pits(pits) => push_pits(text, pits),
         Value::Truth(truth) => push_bytes(text, truth_text(truth).as_bytes()),
         Value::Missing => push_bytes(text, missing(form).as_bytes()),
+    }
+}
+
+/// Puts a board, in quotes but in a line with spaces.
+fn push_board(text: &mut AnswerText, form: Form, board: Board)
+    requires { array_vec_len text.old + 37 ≤ ANSWER_ROOM }
+    ensures items { text.new.items ≡ text.old.items ++ board_in board form }
+    ensures len { array_vec_len text.new ≤ array_vec_len text.old + 37 }
+{
+    let pits = board.print();
+    match form {
+        Form::Text => push_bytes(text, pits.as_slice()),
+        Form::Csv | Form::Json => push_quoted(text, pits.as_slice()),
     }
 }
 
@@ -84,6 +144,15 @@ fn push_string_of(text: &mut AnswerText, form: Form, bytes: &[u8])
         push_bytes(text, bytes);
         return;
     }
+    push_quoted(text, bytes);
+}
+
+/// Puts a text of bytes that stand for themselves, in quotes.
+fn push_quoted(text: &mut AnswerText, bytes: &[u8])
+    requires { array_vec_len text.old + (length bytes.now + 2) ≤ ANSWER_ROOM }
+    ensures items { text.new.items ≡ text.old.items ++ quoted bytes.now }
+    ensures len { array_vec_len text.new ≡ array_vec_len text.old + (length bytes.now + 2) }
+{
     text.push(b'"');
     push_bytes(text, bytes);
     text.push(b'"');

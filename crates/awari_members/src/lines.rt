@@ -9,7 +9,7 @@ use awari_board::Board;
 use std::fmt;
 
 /// A name and a value.
-#[derive(Clone, Copy)]
+#[derive(Clone, Copy, Default)]
 pub struct Member<'a> {
     /// Its name: bytes that stand for themselves in JSON.
     pub name: &'a str,

@@ -9,7 +9,7 @@ use awari_board::Board;
 use std::fmt;
 
 /// The value of a member.
-#[derive(Clone, Copy)]
+#[derive(Clone, Copy, Default)]
 pub enum Value<'a> {
     /// A number.
     Number(u64),
@@ -24,6 +24,7 @@ pub enum Value<'a> {
     /// True or false.
     Truth(bool),
     /// There is none.
+    #[default]
     Missing,
 }
 
@@ -47,8 +48,8 @@ impl fmt::Display for InForm<'_> {
                 Form::Text | Form::Csv => write!(f, "{text}"),
             },
             Value::Board(board) => match form {
-                Form::Json => write!(f, "\"{board}\""),
-                Form::Text | Form::Csv => write!(f, "{board}"),
+                Form::Csv | Form::Json => write!(f, "\"{board}\""),
+                Form::Text => write!(f, "{board}"),
             },
             Value::Pits(pits) => write!(f, "[{}]", Pits(pits)),
             Value::Truth(truth) => write!(f, "{}", truth_text(truth)),

@@ -5,7 +5,7 @@ use Rattle.awari_queries.specs.Spans.{AsksFor, AsksForNone}
 use Rattle.awari_queries.specs.declared.boards.BoardSpans.{BoardSpans}
 use Rattle.awari_queries.specs.declared.boards.Spans.{Spans}
 use Rattle.awari_queries.specs.declared.spans.NoSpan.{NoSpan}
-use Rattle.awari_queries.specs.declared.spans.NoSpan.TheVariants.{Value, Distance, Plan, Captures, Side, Moves, Keep, Trap}
+use Rattle.awari_queries.specs.declared.spans.NoSpan.TheVariants.{Value, Distance, Plan, Captures, Greedy, Side, Moves, Keep, Trap}
 use Rattle.awari_queries.specs.declared.spans.Span.{Span}
 
 -- these are the spans that the words name
@@ -14,6 +14,7 @@ pub record AreAskedFor (words : BoardSpans) (spans : Spans) : Type 0 where
   pub distance : AsksFor words.distance spans.distance
   pub plan : AsksFor words.plan spans.plan
   pub captures : AsksFor words.captures spans.captures
+  pub greedy : AsksFor words.greedy spans.greedy
   pub side : AsksFor words.side spans.side
   pub moves : AsksFor words.moves spans.moves
   pub keep : AsksFor words.keep spans.keep
@@ -29,14 +30,17 @@ HasNoSpan words Value = AsksForNone words.value
 HasNoSpan words Distance = AsksForSome words.value × AsksForNone words.distance
 HasNoSpan words Plan = AsksForSome words.value × AsksForSome words.distance × AsksForNone words.plan
 HasNoSpan words Captures = AsksForSome words.value × AsksForSome words.distance × AsksForSome words.plan × AsksForNone words.captures
+HasNoSpan words Greedy =
+    AsksForSome words.value × AsksForSome words.distance × AsksForSome words.plan × AsksForSome words.captures × AsksForNone words.greedy
 HasNoSpan words Side =
-    AsksForSome words.value × AsksForSome words.distance × AsksForSome words.plan × AsksForSome words.captures × AsksForNone words.side
+    AsksForSome words.value × AsksForSome words.distance × AsksForSome words.plan × AsksForSome words.captures
+    × AsksForSome words.greedy × AsksForNone words.side
 HasNoSpan words Moves =
     AsksForSome words.value × AsksForSome words.distance × AsksForSome words.plan × AsksForSome words.captures
-    × AsksForSome words.side × AsksForNone words.moves
+    × AsksForSome words.greedy × AsksForSome words.side × AsksForNone words.moves
 HasNoSpan words Keep =
     AsksForSome words.value × AsksForSome words.distance × AsksForSome words.plan × AsksForSome words.captures
-    × AsksForSome words.side × AsksForSome words.moves × AsksForNone words.keep
+    × AsksForSome words.greedy × AsksForSome words.side × AsksForSome words.moves × AsksForNone words.keep
 HasNoSpan words Trap =
     AsksForSome words.value × AsksForSome words.distance × AsksForSome words.plan × AsksForSome words.captures
-    × AsksForSome words.side × AsksForSome words.moves × AsksForSome words.keep × AsksForNone words.trap
+    × AsksForSome words.greedy × AsksForSome words.side × AsksForSome words.moves × AsksForSome words.keep × AsksForNone words.trap

@@ -4,7 +4,7 @@ use Rattle.std.specs.Int.{w64}
 use Rattle.std.specs.Borrow.{Bor}
 use Rattle.std.specs.Str.Parse.{IsNumeral, signed_digits_value, without_leading_sign}
 use Rattle.awari_queries.specs.declared.spans.NoSpan.{NoSpan}
-use Rattle.awari_queries.specs.declared.spans.NoSpan.TheVariants.{Value, Distance, Plan, Captures, Side, Moves, Keep, Trap}
+use Rattle.awari_queries.specs.declared.spans.NoSpan.TheVariants.{Value, Distance, Plan, Captures, Greedy, Side, Moves, Keep, Trap}
 use Rattle.awari_queries.specs.declared.spans.Span.{Span}
 
 -- the text is a decimal number of at most 64 bits, with a sign or not
@@ -59,6 +59,7 @@ option_of Value = codes "--value"
 option_of Distance = codes "--distance"
 option_of Plan = codes "--plan"
 option_of Captures = codes "--captures"
+option_of Greedy = codes "--greedy"
 option_of Side = codes "--side"
 option_of Moves = codes "--moves"
 option_of Keep = codes "--keep"

@@ -55,6 +55,8 @@ pub struct BoardSpans<'a> {
     pub plan: Option<&'a str>,
     /// Stones that the plan's move captures.
     pub captures: Option<&'a str>,
+    /// Stones of the largest capture.
+    pub greedy: Option<&'a str>,
     /// Stones on the mover's side.
     pub side: Option<&'a str>,
     /// Legal moves.
@@ -76,6 +78,8 @@ pub struct Spans {
     pub plan: Option<Span>,
     /// Stones that the plan's move captures.
     pub captures: Option<Span>,
+    /// Stones of the largest capture.
+    pub greedy: Option<Span>,
     /// Stones on the mover's side.
     pub side: Option<Span>,
     /// Legal moves.
@@ -96,6 +100,7 @@ pub fn asked_spans(words: &BoardSpans<'_>) -> Result<Spans, NoSpan>
         distance: asked_span(words.distance, NoSpan::Distance)?,
         plan: asked_span(words.plan, NoSpan::Plan)?,
         captures: asked_span(words.captures, NoSpan::Captures)?,
+        greedy: asked_span(words.greedy, NoSpan::Greedy)?,
         side: asked_span(words.side, NoSpan::Side)?,
         moves: asked_span(words.moves, NoSpan::Moves)?,
         keep: asked_span(words.keep, NoSpan::Keep)?,

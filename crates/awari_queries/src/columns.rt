@@ -16,6 +16,8 @@ pub enum Column {
     Plan,
     /// The stones that the plan's move captures, or -1 for no plan.
     Captures,
+    /// The stones of the largest capture among the legal moves, or -1 if no move captures.
+    Greedy,
     /// How many moves are legal.
     Moves,
     /// How many of these gain what the board is worth.
@@ -33,6 +35,7 @@ impl Column {
             Column::Distance => "distance",
             Column::Plan => "plan",
             Column::Captures => "captures",
+            Column::Greedy => "greedy",
             Column::Moves => "moves",
             Column::Keep => "keep",
         }
@@ -68,9 +71,11 @@ impl NoColumn {
         ensures { result.now ≡ sentence_of self }
     {
         match self {
-            NoColumn::Sort => "A column is rank, value, distance, plan, captures, moves or keep",
+            NoColumn::Sort => {
+                "A column is rank, value, distance, plan, captures, greedy, moves or keep"
+            }
             NoColumn::By => {
-                "Columns are two of value, distance, plan, captures, moves and keep, with a comma between"
+                "Columns are two of value, distance, plan, captures, greedy, moves and keep, with a comma between"
             }
             NoColumn::Twice => "Both columns are the same",
             NoColumn::Level => "LEVEL is missing",
@@ -89,6 +94,7 @@ pub(crate) fn column_of(text: &str) -> Option<Column>
         "distance" => Some(Column::Distance),
         "plan" => Some(Column::Plan),
         "captures" => Some(Column::Captures),
+        "greedy" => Some(Column::Greedy),
         "moves" => Some(Column::Moves),
         "keep" => Some(Column::Keep),
         _ => None,

@@ -43,6 +43,8 @@ pub enum NoSpan {
     Plan,
     /// `--captures`.
     Captures,
+    /// `--greedy`.
+    Greedy,
     /// `--side`.
     Side,
     /// `--moves`.
@@ -63,6 +65,7 @@ impl NoSpan {
             NoSpan::Distance => "--distance",
             NoSpan::Plan => "--plan",
             NoSpan::Captures => "--captures",
+            NoSpan::Greedy => "--greedy",
             NoSpan::Side => "--side",
             NoSpan::Moves => "--moves",
             NoSpan::Keep => "--keep",

@@ -3,7 +3,7 @@
 ghost use Rattle.std.specs.Prelude.{◌≡◌, ◌≤◌, ◌+◌, ◌++◌, codes, length, map};
 ghost use Rattle.arrayvec.specs.ArrayVec.{array_vec_len};
 ghost use Rattle.awari_members.specs.Json.{commas};
-ghost use Rattle.awari_members.specs.Members.{marked};
+ghost use Rattle.awari_members.specs.Members.{marked, room_of, said};
 ghost use Rattle.awari_shown.specs.Json.{entry_json, entry_members, move_json, refusal_json, weighed_json};
 ghost use Rattle.awari_members.specs.declared.forms.Form.TheVariants as form;
 
@@ -55,17 +55,26 @@ pub fn refusal_json(request: &[u8], number: u8) -> AnswerText
     text
 }
 
+/// The members of a board and its entry.
+pub fn entry_members(board: &Board, entry: Entry) -> [Member<'static>; 4]
+    ensures said { map said result ≡ entry_members board.now entry }
+    ensures room { room_of result ≤ 136 }
+{
+    [
+        Member::board("board", *board),
+        Member::signed("value", i64::from(entry.value)),
+        Member::pit("plan", entry.plan),
+        Member::number("distance", u64::from(entry.dist)),
+    ]
+}
+
 /// Opens an object, and puts the members of an entry.
 fn push_entry(text: &mut AnswerText, board: &Board, entry: Entry)
     requires { array_vec_len text.old + 136 ≤ ANSWER_ROOM }
     ensures items { text.new.items ≡ text.old.items ++ marked form.Json (codes "{") (entry_members board.now entry) }
     ensures len { array_vec_len text.new ≤ array_vec_len text.old + 136 }
 {
-    let board = Member::board("board", *board);
-    let value = Member::signed("value", i64::from(entry.value));
-    let plan = Member::pit("plan", entry.plan);
-    let distance = Member::number("distance", u64::from(entry.dist));
-    push_members(text, Form::Json, b"{", &[board, value, plan, distance]);
+    push_members(text, Form::Json, b"{", &entry_members(board, entry));
 }
 
 /// Puts the moves, with commas between them.

@@ -18,6 +18,6 @@ mod json;
 mod moves;
 mod refusals;
 
-pub use json::{entry_json, refusal_json, weighed_json};
+pub use json::{entry_json, entry_members, refusal_json, weighed_json};
 pub use moves::weighed_text;
 pub use refusals::push_reason;

@@ -137,9 +137,9 @@ plays_command = command (codes "plays") (board ∷ number (codes "PLIES") (Signe
 abbrev pub counts_command : Shape
 counts_command = command (codes "counts") (folder ∷ level ∷ option (codes "by") ∷ csv ∷ json ∷ unverified ∷ [])
 
--- spans of numbers that a board's entry gives
+-- spans of numbers that a board's entry gives, and of captures
 abbrev pub entry_spans : List Rule
-entry_spans = option (codes "value") ∷ option (codes "distance") ∷ option (codes "plan") ∷ option (codes "captures") ∷ []
+entry_spans = option (codes "value") ∷ option (codes "distance") ∷ option (codes "plan") ∷ option (codes "captures") ∷ option (codes "greedy") ∷ []
 
 -- spans of what is counted on a board
 abbrev pub count_spans : List Rule

@@ -57,6 +57,7 @@ pub record IsBoardsQueryOf (given : List Row) (query : BoardsQuery) : Type 0 whe
   pub distance : option_map (λ t. t.now) query.spans.distance ≡ first_of (codes "distance") given
   pub plan : option_map (λ t. t.now) query.spans.plan ≡ first_of (codes "plan") given
   pub captures : option_map (λ t. t.now) query.spans.captures ≡ first_of (codes "captures") given
+  pub greedy : option_map (λ t. t.now) query.spans.greedy ≡ first_of (codes "greedy") given
   pub side : option_map (λ t. t.now) query.spans.side ≡ first_of (codes "side") given
   pub moves : option_map (λ t. t.now) query.spans.moves ≡ first_of (codes "moves") given
   pub keep : option_map (λ t. t.now) query.spans.keep ≡ first_of (codes "keep") given

@@ -477,7 +477,7 @@ fn with_forms<'a>(
     with_word(command, unverified(alloc))
 }
 
-/// The command with the options of numbers that a board's entry gives.
+/// The command with the options of numbers that a board's entry gives, and of captures.
 fn with_entry_spans<'a>(
     alloc: Global,
     command: Result<Command<'a>, AllocError>,
@@ -503,7 +503,13 @@ fn with_entry_spans<'a>(
         "captures",
         "Boards whose plan captures A to B stones",
     );
-    with_word(command, captures)
+    let command = with_word(command, captures);
+    let greedy = span(
+        alloc,
+        "greedy",
+        "Boards whose largest capture is of A to B stones",
+    );
+    with_word(command, greedy)
 }
 
 /// The command with the options of what is counted on a board.

@@ -89,6 +89,7 @@ fn takes_span(option: &str) -> bool
         || option == "--distance"
         || option == "--plan"
         || option == "--captures"
+        || option == "--greedy"
         || option == "--side"
         || option == "--moves"
         || option == "--keep"

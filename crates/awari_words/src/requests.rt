@@ -117,7 +117,7 @@ pub enum Question<'a> {
     /// or one.
     Counts(CountsQuery<'a>),
     /// `boards FOLDER LEVEL [--value A..B] [--distance A..B] [--plan A..B] [--captures A..B]
-    /// [--side A..B] [--moves A..B] [--keep A..B] [--trap A..B] [--waits] [--ended] [--open]
+    /// [--greedy A..B] [--side A..B] [--moves A..B] [--keep A..B] [--trap A..B] [--waits] [--ended] [--open]
     /// [--farthest] [--every K] [--random N] [--seed N] [--sort [-]COLUMN] [--most N] [--with-moves]
     /// [--with-keep] [--count] [--csv] [--json] [--unverified]`: the boards of a level.
     Boards(BoardsQuery<'a>),
@@ -386,6 +386,7 @@ fn boards_query_of<'a>(given: &ArgMatches<'a>) -> Option<BoardsQuery<'a>>
             distance: text(given, "distance"),
             plan: text(given, "plan"),
             captures: text(given, "captures"),
+            greedy: text(given, "greedy"),
             side: text(given, "side"),
             moves: text(given, "moves"),
             keep: text(given, "keep"),

@@ -3,7 +3,7 @@ use mir.Val.{of_z, to_z}
 use Rattle.std.proofs.Common.{◌≡◌, ap, pos, rules, sym, ◌∙◌}
 use Rattle.awari_table.specs.declared.images.Entry.{Entry}
 use Rattle.awari_facts.proofs.FactLaws.{rank_listed}
-use Rattle.awari_facts.specs.Facts.{captures_by, legal_moves}
+use Rattle.awari_facts.specs.Facts.{captures_by, largest_capture, legal_moves}
 use Rattle.awari_facts.specs.Numbers.{number_in, or_less}
 use Rattle.awari_facts.proofs.numbers.own_number.Goals as goal
 
@@ -37,6 +37,12 @@ unfolding number_in
 returns-in-Captures-clause-number c = λ images board at.
     let back : to_z w64 (of_z w64 c.or_less-in-Captures.result) ≡ c.or_less-in-Captures.result = search rules in
     back ∙ c.or_less-in-Captures.ensures ∙ ap or_less (c.plan_captures.ensures ∙ ap (λ b. captures_by b c.args.seen.now.entry.plan) (c.board.ensures.at images board at) ∙ ap (λ (e : Entry). captures_by board e.plan) at.entry) ∙ ap (λ column. number_in images column board) (sym c.in-Captures.is)
+
+pub returns-in-Greedy-clause-number : goal.returns-in-Greedy-clause-number
+unfolding number_in
+returns-in-Greedy-clause-number c = λ images board at.
+    let back : to_z w64 (of_z w64 c.or_less-in-Greedy.result) ≡ c.or_less-in-Greedy.result = search rules in
+    back ∙ c.or_less-in-Greedy.ensures ∙ ap or_less (c.largest_capture.ensures ∙ ap largest_capture (c.board-in-Greedy.ensures.at images board at)) ∙ ap (λ column. number_in images column board) (sym c.in-Greedy.is)
 
 pub returns-in-Moves-clause-number : goal.returns-in-Moves-clause-number
 unfolding number_in

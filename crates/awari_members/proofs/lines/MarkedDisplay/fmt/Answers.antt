@@ -1,7 +1,7 @@
 use Rattle.std.proofs.Common.{◌++◌, refl, rules}
 use Rattle.std.proofs.lemmas.Grind.{put_two}
 use Rattle.std.proofs.lemmas.List.{get_or_default}
-use Rattle.awari_members.specs.Members.{marked, member_text, said}
+use Rattle.awari_members.specs.Members.{member_text, said}
 use Rattle.awari_members.proofs.MemberLaws.{marked-on}
 use Rattle.awari_members.proofs.lines.MarkedDisplay.fmt.Goals as goal
 
