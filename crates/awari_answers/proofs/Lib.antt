@@ -1,5 +1,5 @@
 pub mod LevelLineLaws
 mod LineCounts
-pub mod PrintLaws
-pub mod RefusalLaws
-pub mod Requests
+mod PrintLaws
+mod RefusalLaws
+mod Requests

@@ -1,10 +1,10 @@
 pub mod BlockLemmas
-pub mod FreshHeap
-pub mod Opening
+mod FreshHeap
+mod Opening
 pub mod Freshness
 pub mod Settling
-pub mod Awaiting
-pub mod Putting
+mod Awaiting
+mod Putting
 pub mod SixPits
 pub mod NoteLists
 pub mod ListParts

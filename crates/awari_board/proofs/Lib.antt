@@ -1,14 +1,14 @@
 pub mod Landing
 pub mod Legal
-pub mod Faults
+mod Faults
 pub mod Falling
 pub mod Capturing
 pub mod Moving
 pub mod Keeping
-pub mod Listing
-pub mod Writing
-pub mod Matching
-pub mod Reading
-pub mod Scanning
-pub mod Parsing
-pub mod Spelled
+mod Listing
+mod Writing
+mod Matching
+mod Reading
+mod Scanning
+mod Parsing
+mod Spelled

@@ -1,5 +1,5 @@
-pub mod JudgeLaws
-pub mod MemoLaws
-pub mod PlayLaws
-pub mod PlyLines
-pub mod Knowing
+mod JudgeLaws
+mod MemoLaws
+mod PlayLaws
+mod PlyLines
+mod Knowing

@@ -1,2 +1,2 @@
-pub mod Gains
-pub mod OnePart
+mod Gains
+mod OnePart

@@ -1,5 +1,5 @@
-pub mod FileMoves
-pub mod Handling
-pub mod Mapping
-pub mod Numbers
-pub mod Runs
+mod FileMoves
+mod Handling
+mod Mapping
+mod Numbers
+mod Runs

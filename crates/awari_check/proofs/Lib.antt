@@ -1,2 +1,2 @@
-pub mod CheckLaws
+mod CheckLaws
 pub mod AnswerLaws

@@ -1,7 +1,7 @@
-pub mod EstimateLaws
-pub mod HostLaws
-pub mod BuildLaws
-pub mod FolderBuilds
-pub mod SavedLevels
-pub mod MigratedLaws
-pub mod OneFolder
+mod EstimateLaws
+mod HostLaws
+mod BuildLaws
+mod FolderBuilds
+mod SavedLevels
+mod MigratedLaws
+mod OneFolder

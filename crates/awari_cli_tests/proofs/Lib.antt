@@ -1,1 +1,1 @@
-pub mod KnownLaws
+mod KnownLaws

@@ -1,7 +1,7 @@
-pub mod Sounding
-pub mod Steps
-pub mod Telling
-pub mod Effects
+mod Sounding
+mod Steps
+mod Telling
+mod Effects
 pub mod Rounds
-pub mod Making
-pub mod Ending
+mod Making
+mod Ending

@@ -1,7 +1,7 @@
-pub mod Posts
-pub mod Sounds
-pub mod Keeping
-pub mod Beginning
-pub mod Gathered
-pub mod Homing
-pub mod Parts
+mod Posts
+mod Sounds
+mod Keeping
+mod Beginning
+mod Gathered
+mod Homing
+mod Parts

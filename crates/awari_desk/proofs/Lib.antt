@@ -1,3 +1,3 @@
-pub mod Grows
-pub mod Serves
-pub mod Longer
+mod Grows
+mod Serves
+mod Longer

@@ -1,1 +1,1 @@
-pub mod Log
+mod Log

@@ -1,5 +1,5 @@
-pub mod Empty
-pub mod Written
+mod Empty
+mod Written
 pub mod Opened
 pub mod Saved
 pub mod Kept

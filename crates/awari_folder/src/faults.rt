@@ -52,7 +52,11 @@ impl FolderFault {
             FolderFault::Below { level } => Reason::with_number(80, "level", u128::from(level)),
             FolderFault::File { level, .. } => Reason::with_number(81, "level", u128::from(level)),
             FolderFault::Open { level } => Reason::with_number(82, "level", u128::from(level)),
-            FolderFault::Verify { level, .. } => Reason::with_number(83, "level", u128::from(level)),
+            FolderFault::Verify { level, .. } => Reason::with_number(
+                83,
+                "level",
+                u128::from(level),
+            ),
             FolderFault::Memory => Reason::alone(84),
             FolderFault::Occupied { level } => Reason::with_number(85, "level", u128::from(level)),
             FolderFault::Old { level } => Reason::with_number(86, "level", u128::from(level)),

@@ -1,2 +1,2 @@
-pub mod Showing
-pub mod Outcomes
+mod Showing
+mod Outcomes

@@ -1,15 +1,15 @@
-pub mod PlainSteps
-pub mod Statuses
+mod PlainSteps
+mod Statuses
 pub mod HearingPlans
-pub mod OpeningPlans
+mod OpeningPlans
 pub mod PlannedTallies
 pub mod Taking
 pub mod Gains
 pub mod SpreadBoards
 pub mod Coming
-pub mod PlainFinish
+mod PlainFinish
 pub mod Finishing
-pub mod RightCells
+mod RightCells
 pub mod Levels
-pub mod Distances
+mod Distances
 pub mod Blocks

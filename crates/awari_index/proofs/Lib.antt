@@ -1,3 +1,3 @@
-pub mod Halving
-pub mod RunLists
-pub mod Filling
+mod Halving
+mod RunLists
+mod Filling

@@ -1,16 +1,16 @@
-pub mod CellLaws
-pub mod ChoiceLaws
-pub mod CountLaws
-pub mod FolderLaws
-pub mod HeldLaws
-pub mod KeyLaws
-pub mod LineLaws
-pub mod ListingLaws
-pub mod PairLaws
-pub mod SizeLaws
-pub mod SourceLaws
-pub mod TallyLaws
-pub mod TextLaws
-pub mod WalkLaws
-pub mod WantedLaws
-pub mod WishLaws
+mod CellLaws
+mod ChoiceLaws
+mod CountLaws
+mod FolderLaws
+mod HeldLaws
+mod KeyLaws
+mod LineLaws
+mod ListingLaws
+mod PairLaws
+mod SizeLaws
+mod SourceLaws
+mod TallyLaws
+mod TextLaws
+mod WalkLaws
+mod WantedLaws
+mod WishLaws

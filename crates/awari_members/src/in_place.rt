@@ -52,11 +52,11 @@ fn push_values(text: &mut AnswerText, form: Form, members: &[Member<'_>])
     ensures items { text.new.items ≡ text.old.items ++ valued form [] (map said members.now) }
     ensures len { array_vec_len text.new ≤ array_vec_len text.old + room_of members.now }
 {
-    let mut next: &[u8] = b"";
+    let mut between: &[u8] = b"";
     for member in members {
-        push_bytes(text, next);
+        push_bytes(text, between);
         push_value(text, form, &member.value);
-        next = mark_of(form).as_bytes();
+        between = mark_of(form).as_bytes();
     }
 }
 

@@ -1,1 +1,1 @@
-pub mod Migrations
+mod Migrations

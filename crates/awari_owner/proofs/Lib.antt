@@ -1,15 +1,15 @@
 pub mod Lists
-pub mod SpreadNotes
-pub mod Spreading
-pub mod Hearing
-pub mod ScannedOwners
-pub mod Firsts
-pub mod Sending
-pub mod Telling
-pub mod Queueing
+mod SpreadNotes
+mod Spreading
+mod Hearing
+mod ScannedOwners
+mod Firsts
+mod Sending
+mod Telling
+mod Queueing
 pub mod Sharing
 pub mod Expecting
 pub mod Levels
 pub mod Sounding
-pub mod Giving
+mod Giving
 pub mod SpreadFaults

@@ -1,1 +1,1 @@
-pub mod Wholes
+mod Wholes

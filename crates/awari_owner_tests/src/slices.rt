@@ -5,8 +5,7 @@ ghost use Rattle.awari_table.specs.declared.TheConstants.{HIGHEST_LEVEL};
 
 use crate::counts::{COUNTS, expect_counts};
 use crate::shelves::one_level;
-use awari_segments::Halt;
-use awari_segments::{SlicedLevel, spread_slices};
+use awari_segments::{Halt, SlicedLevel, spread_slices};
 use awari_table::{Image, Shelf};
 use awari_verify::verify;
 use std::alloc::Global;

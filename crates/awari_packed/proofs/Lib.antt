@@ -1,11 +1,11 @@
-pub mod Digits
-pub mod Emptying
+mod Digits
+mod Emptying
 pub mod FallTables
-pub mod Halves
-pub mod Moving
-pub mod PairTables
-pub mod RankSums
-pub mod Taking
+mod Halves
+mod Moving
+mod PairTables
+mod RankSums
+mod Taking
 pub mod TakingBack
-pub mod Whole
-pub mod Nexts
+mod Whole
+mod Nexts

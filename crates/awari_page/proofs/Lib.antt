@@ -1,4 +1,4 @@
-pub mod Built
-pub mod Handling
-pub mod Sides
-pub mod Slices
+mod Built
+mod Handling
+mod Sides
+mod Slices

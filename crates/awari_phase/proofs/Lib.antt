@@ -1,14 +1,14 @@
-pub mod Keeping
-pub mod Stopping
-pub mod Halting
-pub mod Pairs
+mod Keeping
+mod Stopping
+mod Halting
+mod Pairs
 pub mod Grown
 pub mod Each
-pub mod Beginning
-pub mod Opening
+mod Beginning
+mod Opening
 pub mod Gaining
-pub mod Together
-pub mod Refusing
-pub mod Looking
+mod Together
+mod Refusing
+mod Looking
 pub mod Worked
-pub mod Sweeping
+mod Sweeping

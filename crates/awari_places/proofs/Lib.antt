@@ -1,7 +1,7 @@
-pub mod Lying
-pub mod Saying
+mod Lying
+mod Saying
 pub mod Reading
 pub mod Refusing
-pub mod Framing
+mod Framing
 pub mod Running
-pub mod Collecting
+mod Collecting

@@ -1,4 +1,4 @@
-pub mod LowestPlans
-pub mod Consistency
-pub mod Whole
-pub mod Closing
+mod LowestPlans
+mod Consistency
+mod Whole
+mod Closing

@@ -1,11 +1,11 @@
 pub mod Serving
 pub mod Tables
 pub mod Planned
-pub mod Following
-pub mod Lowered
-pub mod Lowerings
+mod Following
+mod Lowered
+mod Lowerings
 pub mod Alike
-pub mod Worthing
-pub mod HoldingOut
-pub mod PlyLaws
+mod Worthing
+mod HoldingOut
+mod PlyLaws
 pub mod Lasting

@@ -1,5 +1,5 @@
-pub mod HeldLaws
+mod HeldLaws
 pub mod HoldingLaws
 pub mod Sampling
-pub mod SpanLaws
-pub mod SortLaws
+mod SpanLaws
+mod SortLaws

@@ -1,9 +1,9 @@
 pub mod Counting
 pub mod Examples
-pub mod Order
+mod Order
 pub mod Ranking
 pub mod Reaching
 pub mod Succeeding
 pub mod Table
-pub mod Unranking
+mod Unranking
 pub mod Fillings

@@ -1,4 +1,4 @@
 pub mod Scanning
-pub mod Looks
-pub mod RunMoves
+mod Looks
+mod RunMoves
 pub mod Finding

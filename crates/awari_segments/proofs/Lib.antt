@@ -1,27 +1,27 @@
-pub mod Surely
-pub mod Takes
+mod Surely
+mod Takes
 pub mod Steps
 pub mod Tells
-pub mod Laying
-pub mod Telling
-pub mod Sources
-pub mod Noting
-pub mod Hearings
-pub mod Given
-pub mod Spans
-pub mod Opened
-pub mod EachPart
-pub mod NearestDue
-pub mod Cutting
+mod Laying
+mod Telling
+mod Sources
+mod Noting
+mod Hearings
+mod Given
+mod Spans
+mod Opened
+mod EachPart
+mod NearestDue
+mod Cutting
 pub mod Stages
-pub mod Ahead
-pub mod Heard
-pub mod Keeping
-pub mod ListLemmas
-pub mod LeastDue
-pub mod Joining
-pub mod Giving
-pub mod NearestList
-pub mod LoneTurns
-pub mod Passing
-pub mod Going
+mod Ahead
+mod Heard
+mod Keeping
+mod ListLemmas
+mod LeastDue
+mod Joining
+mod Giving
+mod NearestList
+mod LoneTurns
+mod Passing
+mod Going

@@ -1,2 +1,2 @@
-pub mod MoveLines
-pub mod JsonLaws
+mod MoveLines
+mod JsonLaws

@@ -1,11 +1,11 @@
 pub mod ShelfLemmas
-pub mod ColumnLemmas
-pub mod RunLemmas
+mod ColumnLemmas
+mod RunLemmas
 pub mod CertificateLemmas
-pub mod CountLemmas
+mod CountLemmas
 pub mod EntryLemmas
-pub mod LineLaws
-pub mod BlockLaws
-pub mod Loop
+mod LineLaws
+mod BlockLaws
+mod Loop
 pub mod TextLaws
 pub mod Spelled

@@ -1,10 +1,10 @@
 pub mod OlderLemmas
 pub mod Moves
 pub mod Sides
-pub mod Keeps
-pub mod Nears
-pub mod Forces
+mod Keeps
+mod Nears
+mod Forces
 pub mod Comes
-pub mod Worths
-pub mod Leasts
+mod Worths
+mod Leasts
 pub mod Truths

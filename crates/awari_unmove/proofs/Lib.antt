@@ -1,11 +1,11 @@
-pub mod Unsowing
-pub mod Unmoving
-pub mod Listed
-pub mod Quiet
-pub mod Predecessors
-pub mod Undoing
+mod Unsowing
+mod Unmoving
+mod Listed
+mod Quiet
+mod Predecessors
+mod Undoing
 pub mod Walking
-pub mod Ends
-pub mod Sown
-pub mod OwnSide
-pub mod FarSide
+mod Ends
+mod Sown
+mod OwnSide
+mod FarSide

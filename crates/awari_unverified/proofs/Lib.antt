@@ -1,2 +1,2 @@
-pub mod Names
-pub mod SaidLaws
+mod Names
+mod SaidLaws

@@ -1,10 +1,10 @@
 pub mod SightLemmas
-pub mod LevelLemmas
-pub mod PieceLemmas
-pub mod ShareLemmas
-pub mod FillingLemmas
-pub mod LookLemmas
-pub mod TileLemmas
+mod LevelLemmas
+mod PieceLemmas
+mod ShareLemmas
+mod FillingLemmas
+mod LookLemmas
+mod TileLemmas
 pub mod FaultLemmas
-pub mod TruthLemmas
-pub mod OlderLemmas
+mod TruthLemmas
+mod OlderLemmas

@@ -1,3 +1,3 @@
-pub mod CommandLaws
-pub mod JoinedWords
-pub mod WordRows
+mod CommandLaws
+mod JoinedWords
+mod WordRows

@@ -5,7 +5,7 @@ use Rattle.awari_members.proofs.in_place.push_values.Given as goal
 
 abbrev pub invariant-loop-member : goal.invariant-loop-member
 invariant-loop-member l = record {
-  short : length l.next ≤ 1;
+  short : length l.between ≤ 1;
   room : array_vec_len l.text + room_of (drop l.member-index l.members) ≤ array_vec_len l.fn.text + room_of l.members;
-  items : l.text.items ++ valued l.form l.next (map said (drop l.member-index l.members)) ≡ l.fn.text.items ++ valued l.form [] (map said l.members);
+  items : l.text.items ++ valued l.form l.between (map said (drop l.member-index l.members)) ≡ l.fn.text.items ++ valued l.form [] (map said l.members);
 }
