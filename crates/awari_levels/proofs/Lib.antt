@@ -1,6 +1,7 @@
 pub mod CellLaws
 pub mod ChoiceLaws
 pub mod CountLaws
+pub mod FaultLaws
 pub mod FolderLaws
 pub mod HeldLaws
 pub mod KeyLaws
