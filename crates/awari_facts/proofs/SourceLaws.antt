@@ -4,7 +4,9 @@ use Rattle.std.proofs.lemmas.List.{length-take-le}
 use Rattle.std.specs.Prelude.{IsSomeAnd}
 use Rattle.std.proofs.lemmas.Option.{get_or_from_slice_get}
 use Rattle.awari_folder.specs.Contents.{Same}
+use Rattle.awari_folder.specs.declared.faults.FolderFault.{FolderFault}
 use Rattle.awari_places.proofs.Reading.{still_says}
+use Rattle.awari_places.proofs.Running.{fault_before}
 use Rattle.awari_places.specs.Places.{AreFormed}
 use Rattle.awari_places.specs.Runs.{IsEntryAt}
 use Rattle.awari_rank.specs.Rank.{rank_of, size_of}
@@ -13,7 +15,7 @@ use Rattle.awari_table.specs.Images.{entry_of, no_entry, no_image}
 use Rattle.awari_table.specs.Shelves.{IsShelf}
 use Rattle.awari_table.specs.declared.images.Entry.{Entry}
 use Rattle.awari_table.specs.declared.images.Image.{Image}
-use Rattle.awari_facts.specs.Sources.{SaysBy, limit_of}
+use Rattle.awari_facts.specs.Sources.{IsUnreadFrom, SaysBy, limit_of}
 use Rattle.awari_facts.specs.declared.sources.Source.{Source}
 use Rattle.awari_facts.specs.declared.sources.Source.TheVariants.{Memory, Files}
 
@@ -21,6 +23,11 @@ use Rattle.awari_facts.specs.declared.sources.Source.TheVariants.{Memory, Files}
 pub says_still : (source : Source) (old new : ℕ → Option (Option (List ℕ))) (images : List Image) → Same old new → SaysBy source old images → SaysBy source new images
 says_still (Memory levels) old new images same says = says
 says_still (Files levels) old new images same says = still_says old new levels images same says
+
+-- why an entry is not read, where no name changed
+pub unread_before : (source : Source) (level rank : ℕ) (old new : ℕ → Option (Option (List ℕ))) (fault : FolderFault) → Same old new → IsUnreadFrom source level rank (new level) fault → IsUnreadFrom source level 0 (old level) fault
+unread_before (Memory levels) level rank old new fault same is = is
+unread_before (Files levels) level rank old new fault same is = fault_before level rank 0 old new fault same (omega arith) is
 
 pub image_of : (o : Option Image) (P : Image → Type 0) → IsSomeAnd o P → (image : Image) × (o ≡ Some image) × P image
 image_of None P h = absurd h

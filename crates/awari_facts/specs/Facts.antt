@@ -80,6 +80,3 @@ greediest moves = fold greedier no_capture moves
 -- what is thrown away by the move that captures most, if this is the value: the value less what it gains; 0 if no move captures
 abbrev pub lost_by : ℤ → Gained → ℤ
 lost_by value g = if g.captured == 0 then pos 0 else value -ℤ g.value
-
-abbrev pub trap_of : List Image → List ℕ → ℤ
-trap_of images board = lost_by (entry_of images board).value (greediest (gains_in images board))

@@ -1,6 +1,8 @@
 -- Where the entries of a level are read, and what is said of a level that no one verified.
 use Rattle.std.specs.Prelude.{◌≡◌, ℕ, ◌+◌, ◌<◌, ◌≤◌, List, length, min, Option, slice_index_or}
 use Rattle.awari_folder.specs.Contents.{AreNames}
+use Rattle.awari_folder.specs.declared.faults.FolderFault.{FolderFault}
+use Rattle.awari_places.specs.Faults.{IsFaultFrom, IsRefusedAt}
 use Rattle.awari_places.specs.Opening.{AreFramed}
 use Rattle.awari_places.specs.Places.{AreFormed, Says}
 use Rattle.awari_places.specs.declared.opening.Opened.{Opened}
@@ -27,6 +29,17 @@ levels_of (Files levels) = levels
 abbrev pub SaysBy : Source → (ℕ → Option (Option (List ℕ))) → List Image → Type 0
 SaysBy (Memory levels) stands images = (images ≡ images_of levels) × AreFormed images
 SaysBy (Files levels) stands images = Says stands levels images
+
+-- Why the entry of a rank of a level is not read, by what has the name of the level's file: that of some rank from this one on is
+-- refused so. Levels in memory refuse none.
+abbrev pub IsUnreadFrom : Source → ℕ → ℕ → Option (Option (List ℕ)) → FolderFault → Type 0
+IsUnreadFrom (Memory levels) level rank known fault = ⊥
+IsUnreadFrom (Files levels) level rank known fault = IsFaultFrom level rank known fault
+
+-- Why the entry of a board is not read, likewise.
+abbrev pub IsUnreadAt : Source → (ℕ → Option (Option (List ℕ))) → List ℕ → FolderFault → Type 0
+IsUnreadAt (Memory levels) stands board fault = ⊥
+IsUnreadAt (Files levels) stands board fault = IsRefusedAt stands board fault
 
 -- the limit of the level of this number
 abbrev pub limit_of : List Image → ℕ → ℕ

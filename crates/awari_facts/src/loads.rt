@@ -38,7 +38,6 @@ pub fn load_to<T: Threads + Sync, F: Folder>(
 /// [`open_levels`] is, or as 59 if the level is not there.
 pub fn open_to<F: Folder>(folder: &mut F, level: u8) -> Result<Opened, NoAnswer>
     ensures framed { IfOk result (AreOpenedTo (min level HIGHEST_LEVEL) (F.state folder.old).stands) }
-    ensures known { IfOk result (λ opened. level < opened.levels) }
     ensures only { IfOk result (λ opened. opened.levels ≡ level + 1) }
     ensures fault { IfErr result (IsNoLevel (IsUnopened (min level HIGHEST_LEVEL) (F.state folder.old).stands) (CountsOpened level (F.state folder.old).stands) level) }
     ensures few { IfOk result (λ opened. opened.levels ≤ HIGHEST_LEVEL + 1) }

@@ -1,16 +1,15 @@
 //! Where the entries of a level are read: levels in memory, or files where they lie.
 
 ghost use Rattle.std.specs.Prelude.{◌≡◌, ◌<◌, ◌≤◌, ℕ, List, Option, Some, IfErr, IfOk, length, slice_index_or, sum};
-ghost use Rattle.awari_folder.specs.FolderFault.{Names};
 ghost use Rattle.awari_folder.specs.State.{Unchanged};
-ghost use Rattle.awari_places.specs.Faults.{IsLimitFault, IsRefusedAt};
+ghost use Rattle.awari_places.specs.Faults.{IsLimitFault};
 ghost use Rattle.awari_places.specs.Runs.{IsEntryAt, IsRunOf};
 ghost use Rattle.awari_rank.specs.Rank.{size_of};
 ghost use Rattle.awari_table.specs.Images.{entry_of, no_entry, no_image};
 ghost use Rattle.awari_table.specs.declared.TheConstants.{HIGHEST_LEVEL};
 ghost use Rattle.awari_table.specs.declared.images.Image.{Image};
 ghost use Rattle.awari_places.specs.Places.{AreFormed, IsLevelOf};
-ghost use Rattle.awari_facts.specs.Sources.{SaysBy, images_of, levels_of, limit_of};
+ghost use Rattle.awari_facts.specs.Sources.{IsUnreadAt, IsUnreadFrom, SaysBy, images_of, levels_of, limit_of};
 
 use awari_folder::{Folder, FolderFault};
 use awari_packed::PackedBoard;
@@ -62,7 +61,7 @@ fn shelf_entry(shelf: &Shelf, level: u8, rank: u32) -> Entry
 
 /// The value of a rank of a level. Conditions: the level is there, and has that many boards.
 #[inline(always)]
-pub fn value_at(levels: Levels<'_>, level: u8, rank: u32) -> i8
+pub(crate) fn value_at(levels: Levels<'_>, level: u8, rank: u32) -> i8
     requires level { level < length (images_of levels) }
     requires rank { rank < size_of level }
     ensures { result ≡ (slice_index_or (slice_index_or (images_of levels.entry) level no_image).entries rank no_entry).value }
@@ -124,7 +123,7 @@ pub fn count_levels(source: Source<'_>) -> u8
 }
 
 /// The entry of a rank of a level. Conditions: the level is there, and has that many boards; the run is
-/// new, or was filled for this level.
+/// new, or was filled for this level. It is refused as [`entry_in_run`] is; levels in memory refuse none.
 pub fn read_entry<F: Folder>(
     source: Source<'_>,
     folder: &mut F,
@@ -138,7 +137,7 @@ pub fn read_entry<F: Folder>(
     ensures entry { (images : List Image) → SaysBy source.entry (F.state folder.old).stands images → IsRunOf images level run.old → IfOk result (IsEntryAt images level rank) }
     ensures run { (images : List Image) → SaysBy source.entry (F.state folder.old).stands images → IsRunOf images level run.old → IsRunOf images level run.new }
     ensures same { Unchanged (F.state folder.old) (F.state folder.new) }
-    ensures named { IfErr result (Names level) }
+    ensures fault { IfErr result (IsUnreadFrom source.entry level rank ((F.state folder.old).stands level)) }
 {
     match source {
         Source::Memory(levels) => Ok(entry_on(levels, level, rank)),
@@ -151,10 +150,7 @@ fn board_entry(levels: Levels<'_>, board: &PackedBoard) -> Entry
     requires { sum board.now < length (images_of levels) }
     ensures { result ≡ entry_of (images_of levels.entry) board.now }
 {
-    match levels {
-        Levels::Right(shelf) => shelf.entry_below(board, board.stones()),
-        Levels::Said(said) => said.entry_at(board.stones(), board.rank()),
-    }
+    entry_on(levels, board.stones(), board.rank())
 }
 
 /// The entry of a board. Condition: its level is there. Of a file, six bytes are read for it.
@@ -166,7 +162,7 @@ pub fn entry_at<F: Folder>(
     requires { IsLevelOf (levels_of source) (sum board.now) }
     ensures entry { (images : List Image) → SaysBy source.entry (F.state folder.old).stands images → IfOk result (λ e. e ≡ entry_of images board.now) }
     ensures same { Unchanged (F.state folder.old) (F.state folder.new) }
-    ensures fault { IfErr result (IsRefusedAt (F.state folder.old).stands board.now) }
+    ensures fault { IfErr result (IsUnreadAt source.entry (F.state folder.old).stands board.now) }
 {
     match source {
         Source::Memory(levels) => Ok(board_entry(levels, board)),

@@ -1,6 +1,7 @@
 mod CellLaws
 mod ChoiceLaws
 mod CountLaws
+mod FaultLaws
 mod FolderLaws
 mod HeldLaws
 mod KeyLaws

@@ -105,7 +105,7 @@ counted-from_0 m = omega (arith, ints)
 few-moves : (m n : ℕ) → m ≤ n → n ≡ 6 → m < 7
 few-moves m n few is = omega (arith, few, is)
 
-rank-inside : (board : List ℕ) → IsBoard board → rank_of board < size_of (sum board)
+pub rank-inside : (board : List ℕ) → IsBoard board → rank_of board < size_of (sum board)
 unfolding size_of
 rank-inside board whole = slice_get_within (tuples 12 (sum board)) (rank_of board) board (listed_board board whole.pits)
 

@@ -1,11 +1,15 @@
 -- The commands `boards` and `text --boards`: which boards of a level are wanted, and what is printed of them.
-use Rattle.std.specs.Prelude.{◌≡◌, ℕ, ◌+◌, ◌%◌, ◌==◌, nat_lt, Bool, true, false, not, ◌&&◌, ◌||◌, if◌then◌else◌, List, ◌++◌, ◌∷◌, [], length, filter, map, codes, pos, Option, Some, None, ℤ}
+use Rattle.std.specs.Prelude.{◌≡◌, ◌⊎◌, ℕ, ◌+◌, ◌%◌, ◌==◌, nat_lt, Bool, true, false, not, ◌&&◌, ◌||◌, if◌then◌else◌, List, ◌++◌, ◌∷◌, [], length, filter, map, codes, pos, Option, Some, None, ℤ}
 use Rattle.core.specs.Option.{is_some}
 use Rattle.std.specs.Io.KnownBytes.{Appends}
 use Rattle.std.specs.List.{flat_map}
 use Rattle.awari_board.specs.Rules.{own_stones}
 use Rattle.awari_facts.specs.Facts.{captures_by, gains_in, keeping_moves, greediest, largest_capture, legal_moves, lost_by, moves_gaining, waits}
 use Rattle.awari_facts.specs.Numbers.{is_own, number_in}
+use Rattle.awari_facts.specs.Sources.{IsUnreadFrom}
+use Rattle.awari_facts.specs.declared.sources.Source.{Source}
+use Rattle.awari_folder.specs.declared.faults.FolderFault.{FolderFault}
+use Rattle.awari_folder.specs.declared.faults.FolderFault.TheVariants.{Memory}
 use Rattle.awari_facts.specs.declared.looks.Gained.{Gained}
 use Rattle.awari_queries.specs.Draws.{draw_of, taken}
 use Rattle.awari_queries.specs.Holding.{first, sorted}
@@ -68,6 +72,10 @@ board_lines wanted images boards = flat_map (board_line wanted images) boards
 -- what was written are the lines of these boards, below what stands above them
 abbrev pub AppendsLines : Wanted → List Image → List (List ℕ) → Option (List ℕ) → Option (List ℕ) → Type 0
 AppendsLines wanted images boards before after = Appends before after (header_of wanted ++ board_lines wanted images boards)
+
+-- Why boards of a level are not listed: 84, or as the entry of some rank is not read.
+abbrev pub IsListFault : Source → ℕ → (ℕ → Option (Option (List ℕ))) → FolderFault → Type 0
+IsListFault source level stands fault = (fault ≡ Memory) ⊎ IsUnreadFrom source level 0 (stands level) fault
 
 -- value, distance and plan are in the spans that are asked for
 unfoldable pub fits : Spans → Entry → Bool

@@ -9,6 +9,7 @@ ghost use Rattle.awari_facts.specs.declared.sources.Source.TheVariants.{Memory};
 ghost use Rattle.awari_folder.specs.Contents.{Same};
 ghost use Rattle.awari_folder.specs.State.{Unchanged};
 ghost use Rattle.awari_table.specs.declared.images.Image.{Image};
+ghost use Rattle.awari_levels.specs.Listing.{IsListFault};
 ghost use Rattle.awari_levels.specs.Boards.{AppendsWanted, IsRefused, IsWanted, PrintsAllBoards, PrintsBoardsBy, all_lines};
 
 use crate::asked::Asked;
@@ -92,6 +93,7 @@ fn print_wanted<R: Threads + Sync, F: Folder, W: Write>(
     requires every { 0 < asked.wanted.now.every }
     ensures printed { (images : List Image) → SaysBy asked.entry.source (F.state folder.old).stands images → result ≡ Ok true
         → AppendsWanted images asked.entry.level asked.entry.wanted.now (W.contents writer.old) (W.contents writer.new) }
+    ensures fault { IfErr result (IsListFault asked.entry.source asked.entry.level (F.state folder.old).stands) }
     ensures same { Unchanged (F.state folder.old) (F.state folder.new) }
 {
     if !asked.wanted.count {

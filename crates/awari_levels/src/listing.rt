@@ -1,6 +1,6 @@
 //! The boards of a level that are wanted, counted or printed.
 
-ghost use Rattle.std.specs.Prelude.{◌≡◌, ◌<◌, ◌-◌, ◌↔◌, ℕ, true, if◌then◌else◌, max, List, Option, length, All, IfOk, None, Ok, Some};
+ghost use Rattle.std.specs.Prelude.{◌≡◌, ◌<◌, ◌-◌, ◌↔◌, ℕ, true, if◌then◌else◌, max, List, Option, length, All, IfErr, IfOk, None, Ok, Some};
 ghost use Rattle.awari_places.specs.Places.{IsLevelOf};
 ghost use Rattle.awari_facts.specs.Facts.{keeping_moves};
 ghost use Rattle.awari_facts.specs.Numbers.{IsAt};
@@ -12,7 +12,7 @@ ghost use Rattle.awari_queries.specs.declared.holding.Held.{Held as AHeld};
 ghost use Rattle.awari_queries.specs.declared.orders.Order.{Order as AnOrder};
 ghost use Rattle.awari_rank.specs.Rank.{size_of};
 ghost use Rattle.awari_table.specs.declared.images.Image.{Image};
-ghost use Rattle.awari_levels.specs.Listing.{AppendsLines, due_boards, farthest_of, numbers_of, taken_boards, wanted_boards};
+ghost use Rattle.awari_levels.specs.Listing.{AppendsLines, IsListFault, due_boards, farthest_of, numbers_of, taken_boards, wanted_boards};
 ghost use Rattle.awari_levels.specs.Walks.{AreHeld, IsChoice};
 
 use crate::asked::Asked;
@@ -42,6 +42,7 @@ fn farther(within: bool, farthest: u32, distance: u32) -> u32
 
 /// The greatest distance of the boards of a level that have what is wanted of each, if the farthest are asked
 /// for, else 0. Condition: the source has the level.
+#[tactic(auto, using(crate::proofs::FaultLaws::faults))]
 fn find_farthest<R: Threads + Sync, F: Folder>(
     rt: &R,
     alloc: Global,
@@ -50,6 +51,7 @@ fn find_farthest<R: Threads + Sync, F: Folder>(
 ) -> Result<u32, FolderFault>
     requires { IsLevelOf (levels_of asked.source) asked.level }
     ensures farthest { (images : List Image) → SaysBy asked.entry.source (F.state folder.old).stands images → IfOk result (λ found. found ≡ farthest_of asked.entry.wanted.now images asked.entry.level) }
+    ensures fault { IfErr result (IsListFault asked.entry.source asked.entry.level (F.state folder.old).stands) }
     ensures same { Unchanged (F.state folder.old) (F.state folder.new) }
 {
     let level = asked.level;
@@ -70,6 +72,7 @@ fn find_farthest<R: Threads + Sync, F: Folder>(
 
 /// How many boards of a level are taken. Conditions: the source has the level, and not each 0th board is
 /// wanted.
+#[tactic(auto, using(crate::proofs::FaultLaws::faults))]
 fn count_taken<R: Threads + Sync, F: Folder>(
     rt: &R,
     alloc: Global,
@@ -80,6 +83,7 @@ fn count_taken<R: Threads + Sync, F: Folder>(
     requires every { 0 < choice.asked.wanted.now.every }
     ensures counted { (images : List Image) → SaysBy choice.entry.asked.source (F.state folder.old).stands images → choice.entry.farthest ≡ farthest_of choice.entry.asked.wanted.now images choice.entry.asked.level
         → IfOk result (λ n. n ≡ length (taken choice.entry.sample (due_boards choice.entry.asked.wanted.now images choice.entry.asked.level))) }
+    ensures fault { IfErr result (IsListFault choice.entry.asked.source choice.entry.asked.level (F.state folder.old).stands) }
     ensures same { Unchanged (F.state folder.old) (F.state folder.new) }
 {
     let mut walk = new_walk(alloc, choice.asked, choice.sample)?;
@@ -93,6 +97,7 @@ fn count_taken<R: Threads + Sync, F: Folder>(
 }
 
 /// What has to be known before the boards of a level are listed. Conditions as for [`count_taken`].
+#[tactic(auto, using(crate::proofs::FaultLaws::faults))]
 fn choose<'a, R: Threads + Sync, F: Folder>(
     rt: &R,
     alloc: Global,
@@ -103,6 +108,7 @@ fn choose<'a, R: Threads + Sync, F: Folder>(
     requires every { 0 < asked.wanted.now.every }
     ensures chosen { (images : List Image) → SaysBy asked.entry.source (F.state folder.old).stands images → IfOk result (IsChoice asked.entry.wanted.now images asked.entry.level) }
     ensures asked { IfOk result (λ choice. choice.asked ≡ asked.entry) }
+    ensures fault { IfErr result (IsListFault asked.entry.source asked.entry.level (F.state folder.old).stands) }
     ensures same { Unchanged (F.state folder.old) (F.state folder.new) }
 {
     let farthest = find_farthest(rt, alloc, folder, asked)?;
@@ -168,6 +174,7 @@ fn was_last(left: &mut u32) -> bool
 
 /// Prints the first ones of the boards that are taken, by rank, and says whether the writer took them. It looks
 /// at no board behind the last of them. Conditions as for [`count_taken`].
+#[tactic(auto, using(crate::proofs::FaultLaws::faults))]
 fn print_taken<R: Threads + Sync, F: Folder, W: Write>(
     rt: &R,
     alloc: Global,
@@ -179,6 +186,7 @@ fn print_taken<R: Threads + Sync, F: Folder, W: Write>(
     requires every { 0 < choice.asked.wanted.now.every }
     ensures printed { (images : List Image) → SaysBy choice.entry.asked.source (F.state folder.old).stands images → IsChoice choice.entry.asked.wanted.now images choice.entry.asked.level choice.entry → result ≡ Ok true
         → AppendsLines choice.entry.asked.wanted.now images (first choice.entry.asked.wanted.now.most (taken_boards choice.entry.asked.wanted.now images choice.entry.asked.level)) (W.contents writer.old) (W.contents writer.new) }
+    ensures fault { IfErr result (IsListFault choice.entry.asked.source choice.entry.asked.level (F.state folder.old).stands) }
     ensures same { Unchanged (F.state folder.old) (F.state folder.new) }
 {
     let level = choice.asked.level;
@@ -214,6 +222,7 @@ fn print_taken<R: Threads + Sync, F: Folder, W: Write>(
 
 /// The first ones of the boards that are taken, by a number. Conditions as for [`count_taken`]. It takes memory
 /// for twice as many, or for all.
+#[tactic(auto, using(crate::proofs::FaultLaws::faults))]
 fn hold_taken<R: Threads + Sync, F: Folder>(
     rt: &R,
     alloc: Global,
@@ -226,6 +235,7 @@ fn hold_taken<R: Threads + Sync, F: Folder>(
         → (order : AnOrder) → choice.entry.asked.wanted.now.order ≡ Some order
         → IfOk result (λ held. AreHeld choice.entry.asked.wanted.now images choice.entry.asked.level (wanted_boards choice.entry.asked.wanted.now images choice.entry.asked.level) held.items) }
     ensures few { IfOk result (λ held. All (λ (h : AHeld). h.rank < size_of choice.entry.asked.level) held.items) }
+    ensures fault { IfErr result (IsListFault choice.entry.asked.source choice.entry.asked.level (F.state folder.old).stands) }
     ensures same { Unchanged (F.state folder.old) (F.state folder.new) }
 {
     let mut walk = new_walk(alloc, choice.asked, choice.sample)?;
@@ -251,6 +261,7 @@ fn hold_taken<R: Threads + Sync, F: Folder>(
 
 /// Prints boards that are held, and says whether the writer took them. Conditions: the source has the level,
 /// and that has that many boards.
+#[tactic(auto, using(crate::proofs::FaultLaws::faults))]
 fn print_held<F: Folder, W: Write>(
     folder: &mut F,
     asked: Asked<'_>,
@@ -261,6 +272,7 @@ fn print_held<F: Folder, W: Write>(
     requires held { All (λ (h : AHeld). h.rank < size_of asked.level) held.now }
     ensures printed { (images : List Image) → SaysBy asked.entry.source (F.state folder.old).stands images → (boards : List (List ℕ)) → AreHeld asked.entry.wanted.now images asked.entry.level boards held.now → result ≡ Ok true
         → AppendsLines asked.entry.wanted.now images boards (W.contents writer.old) (W.contents writer.new) }
+    ensures fault { IfErr result (IsListFault asked.entry.source asked.entry.level (F.state folder.old).stands) }
     ensures same { Unchanged (F.state folder.old) (F.state folder.new) }
 {
     let Asked { level, wanted, .. } = asked;
@@ -279,6 +291,7 @@ fn print_held<F: Folder, W: Write>(
 
 /// Prints the boards of a level that are wanted, a line each, and says whether the writer took them. Conditions
 /// as for [`count_taken`]. It takes memory for those that are sorted, and for those that threads look at.
+#[tactic(auto, using(crate::proofs::FaultLaws::faults))]
 pub(crate) fn print_boards<R: Threads + Sync, F: Folder, W: Write>(
     rt: &R,
     alloc: Global,
@@ -290,6 +303,7 @@ pub(crate) fn print_boards<R: Threads + Sync, F: Folder, W: Write>(
     requires every { 0 < asked.wanted.now.every }
     ensures printed { (images : List Image) → SaysBy asked.entry.source (F.state folder.old).stands images → result ≡ Ok true
         → AppendsLines asked.entry.wanted.now images (wanted_boards asked.entry.wanted.now images asked.entry.level) (W.contents writer.old) (W.contents writer.new) }
+    ensures fault { IfErr result (IsListFault asked.entry.source asked.entry.level (F.state folder.old).stands) }
     ensures same { Unchanged (F.state folder.old) (F.state folder.new) }
 {
     let choice = choose(rt, alloc, folder, asked)?;
@@ -303,6 +317,7 @@ pub(crate) fn print_boards<R: Threads + Sync, F: Folder, W: Write>(
 }
 
 /// How many boards of a level are wanted. Conditions as for [`count_taken`].
+#[tactic(auto, using(crate::proofs::FaultLaws::faults))]
 pub(crate) fn count_boards<R: Threads + Sync, F: Folder>(
     rt: &R,
     alloc: Global,
@@ -312,6 +327,7 @@ pub(crate) fn count_boards<R: Threads + Sync, F: Folder>(
     requires level { IsLevelOf (levels_of asked.source) asked.level }
     requires every { 0 < asked.wanted.now.every }
     ensures counted { (images : List Image) → SaysBy asked.entry.source (F.state folder.old).stands images → IfOk result (λ n. n ≡ length (wanted_boards asked.entry.wanted.now images asked.entry.level)) }
+    ensures fault { IfErr result (IsListFault asked.entry.source asked.entry.level (F.state folder.old).stands) }
     ensures same { Unchanged (F.state folder.old) (F.state folder.new) }
 {
     let choice = choose(rt, alloc, folder, asked)?;

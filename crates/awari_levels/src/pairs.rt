@@ -1,6 +1,6 @@
 //! The command `counts --by`: a level's boards by two columns.
 
-ghost use Rattle.std.specs.Prelude.{◌≡◌, ◌<◌, ◌≤◌, ◌+◌, ℕ, List, IfErr, IfOk, Ok, length, true};
+ghost use Rattle.std.specs.Prelude.{◌≡◌, ◌<◌, ◌≤◌, ◌↔◌, ◌+◌, ℕ, List, IfErr, IfOk, Ok, length, true};
 ghost use Rattle.std.specs.Io.KnownBytes.{Appends};
 ghost use Rattle.awari_facts.specs.Sources.{IsSaidOf, images_of, limit_of};
 ghost use Rattle.awari_folder.specs.Contents.{Same};
@@ -215,7 +215,7 @@ fn refuse_pairs<W: Replies>(writer: &mut W, wish: Wish, fault: NoAnswer) -> u8
 
 /// Whether an entry and the rules say both numbers of a board.
 fn are_own(pair: Pair) -> bool
-    ensures { result ≡ true → IsOwn pair }
+    ensures { result ≡ true ↔ IsOwn pair }
 {
     is_own(pair.first) && is_own(pair.second)
 }

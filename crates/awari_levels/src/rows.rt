@@ -23,19 +23,6 @@ fn is_none(column: Column, number: i64) -> bool
     }
 }
 
-/// The member of a column with this number.
-fn member_of(column: Column, number: i64) -> Member<'static>
-    ensures { said result ≡ column_member column number }
-{
-    if is_none(column, number) {
-        return Member {
-            name: column.name(),
-            value: Value::Missing,
-        };
-    }
-    Member::signed(column.name(), number)
-}
-
 /// A number of a column, by its place.
 #[derive(Clone, Copy)]
 pub(crate) struct Placed {
@@ -43,11 +30,19 @@ pub(crate) struct Placed {
     pub(crate) place: u32,
 }
 
-/// The member of a column with a number.
+/// The member of a column with the number at a place.
 fn member_at(placed: Placed) -> Member<'static>
     ensures { said result ≡ column_member placed.column (number_at placed.column placed.place) }
 {
-    member_of(placed.column, number_at(placed.column, placed.place))
+    let Placed { column, place } = placed;
+    let number = number_at(column, place);
+    if is_none(column, number) {
+        return Member {
+            name: column.name(),
+            value: Value::Missing,
+        };
+    }
+    Member::signed(column.name(), number)
 }
 
 /// A row of numbers of boards.

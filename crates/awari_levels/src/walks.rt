@@ -1,8 +1,8 @@
 //! A walk over the boards of a level, by rank, that finds those that are wanted.
 
-ghost use Rattle.std.specs.Prelude.{◌≡◌, ◌<◌, ◌≤◌, ◌+◌, ◌%◌, ◌==◌, ◌&&◌, ℕ, [], if◌then◌else◌, List, Option, IfOk};
+ghost use Rattle.std.specs.Prelude.{◌≡◌, ◌<◌, ◌≤◌, ◌+◌, ◌%◌, ◌==◌, ◌&&◌, ℕ, [], if◌then◌else◌, List, Option, IfErr, IfOk};
 ghost use Rattle.awari_facts.specs.Numbers.{IsAt};
-ghost use Rattle.awari_facts.specs.Sources.{IsThere, SaysBy, levels_of};
+ghost use Rattle.awari_facts.specs.Sources.{IsThere, IsUnreadFrom, SaysBy, levels_of};
 ghost use Rattle.awari_folder.specs.State.{Unchanged};
 ghost use Rattle.awari_table.specs.Images.{entry_of};
 ghost use Rattle.awari_table.specs.declared.images.Image.{Image};
@@ -67,6 +67,7 @@ pub(crate) fn new_walk(
 ) -> Result<Walk, FolderFault>
     ensures walked { (wanted : AWanted) (images : List Image) (level : ℕ) → IfOk result (Walked wanted images level 0 sample []) }
     ensures none { IfOk result (λ walk. walk.passed ≡ 0) }
+    ensures fault { IfErr result (λ fault. fault ≡ FolderFault.Memory) }
 {
     Ok(Walk {
         segment: segment_for(alloc, asked)?,
@@ -78,7 +79,8 @@ pub(crate) fn new_walk(
 
 /// A segment for what is asked: with files, no board is looked at ahead.
 pub(crate) fn segment_for(alloc: Global, asked: Asked<'_>) -> Result<Segment, FolderFault>
-    ensures { (wanted : AWanted) (images : List Image) (level : ℕ) → IfOk result (HasKeys wanted images level) }
+    ensures keys { (wanted : AWanted) (images : List Image) (level : ℕ) → IfOk result (HasKeys wanted images level) }
+    ensures fault { IfErr result (λ fault. fault ≡ FolderFault.Memory) }
 {
     let boards = match asked.source {
         Source::Memory(_) => SEGMENT,
@@ -150,6 +152,7 @@ pub(crate) fn step<R: Threads + Sync, F: Folder>(
     ensures stepped { (images : List Image) → SaysBy choice.entry.asked.source (F.state folder.old).stands images → choice.entry.farthest ≡ farthest_of choice.entry.asked.wanted.now images choice.entry.asked.level → (boards : List (List ℕ))
         → Walked choice.entry.asked.wanted.now images choice.entry.asked.level rank choice.entry.sample boards walk.old
         → IfOk result (λ taken. Steps choice.entry.asked.wanted.now images choice.entry.asked.level rank choice.entry.sample boards taken walk.new) }
+    ensures fault { IfErr result (IsUnreadFrom choice.entry.asked.source choice.entry.asked.level rank ((F.state folder.old).stands choice.entry.asked.level)) }
     ensures same { Unchanged (F.state folder.old) (F.state folder.new) }
 {
     let Asked {

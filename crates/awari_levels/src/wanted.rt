@@ -1,6 +1,6 @@
 //! Which boards of a level are wanted.
 
-ghost use Rattle.std.specs.Prelude.{◌≡◌, ◌<◌, ◌≤◌, true, false, ℕ, List, Option, IfSome, IsNone, IsSome, length, sum, ℤ};
+ghost use Rattle.std.specs.Prelude.{◌≡◌, ◌<◌, ◌≤◌, ◌↔◌, true, false, ℕ, List, Option, IfSome, IsNone, IsSome, length, sum, ℤ};
 ghost use Rattle.awari_facts.specs.Facts.{gains_in};
 ghost use Rattle.awari_facts.specs.Numbers.{IsAt};
 ghost use Rattle.awari_facts.specs.Sources.{images_of};
@@ -226,7 +226,7 @@ pub(crate) fn key_on(levels: Levels<'_>, wanted: &Wanted, seen: &Seen) -> Option
 
 /// Whether an entry and the rules say of a board whether it is wanted, and all that is printed of it.
 pub(crate) fn is_alone(wanted: &Wanted) -> bool
-    ensures { result ≡ true → IsAlone wanted.now }
+    ensures { result ≡ true ↔ IsAlone wanted.now }
 {
     if wanted.waits || wanted.with_keep || asks_moves(&wanted.spans) {
         return false;

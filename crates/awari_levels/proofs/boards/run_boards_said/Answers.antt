@@ -1,4 +1,4 @@
-use Rattle.std.proofs.Common.{ap, subst, sym}
+use Rattle.std.proofs.Common.{arith, ap, subst, sym}
 use Rattle.std.specs.Borrow.{Bor}
 use Rattle.awari_facts.specs.Sources.{SaysBy}
 use Rattle.awari_facts.specs.declared.sources.Source.{Source}
@@ -12,7 +12,7 @@ pub returns-clause-found : goal.returns-clause-found
 returns-clause-found g c = λ done. record {
   opened = c.in-Ok.opened;
   framed = c.in-Ok.ensures.framed;
-  known = c.in-Ok.ensures.known;
+  known = omega (arith, c.in-Ok.ensures.only);
   said = λ images says.
       let same = c.in-Ok-read_levels.ensures.said images (still_says _ _ c.in-Ok.opened.levels images c.in-Ok.ensures.asks.unchanged.stands says) in
       let by = subst (λ (s : Source). SaysBy s (g.F.Folder.state c.read_levels.new.folder).stands images) (sym c.asked_of.ensures.source) (sym same, subst AreFormed same c.levels-levels.ensures.formed) in

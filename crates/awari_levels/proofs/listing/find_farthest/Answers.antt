@@ -4,6 +4,8 @@ use Rattle.awari_rank.specs.Rank.{size_of}
 use Rattle.awari_places.proofs.Running.{run-none}
 use Rattle.awari_levels.proofs.ChoiceLaws.{farthest-all, farthest-more, farthest-none, farthest-unasked}
 use Rattle.awari_facts.proofs.SourceLaws.{says_still}
+use Rattle.awari_play.proofs.Lasting.{err_same}
+use Rattle.awari_levels.proofs.FaultLaws.{list_entry}
 use Rattle.awari_levels.proofs.SourceLaws.{some_entry}
 use Rattle.awari_levels.proofs.WantedLaws.{within-key}
 use Rattle.awari_levels.proofs.listing.find_farthest.Goals as goal
@@ -14,7 +16,7 @@ returns-then-not-asked-clause-farthest g c = λ images says. farthest-unasked c.
 pub loop-rank-init : goal.loop-rank-init
 loop-rank-init g c = record {
   unchanged = unchanged _;
-  found = λ images says. (run-none images c.args.asked.level c.new-run.result c.new-run.ensures, (c.in_ok-segment.ensures c.args.asked.wanted.now images c.args.asked.level, farthest-none c.args.asked.wanted.now images c.args.asked.level));
+  found = λ images says. (run-none images c.args.asked.level c.new-run.result c.new-run.ensures, (c.in_ok-segment.ensures.keys c.args.asked.wanted.now images c.args.asked.level, farthest-none c.args.asked.wanted.now images c.args.asked.level));
 }
 
 pub loop-rank-preserved : goal.loop-rank-preserved
@@ -42,3 +44,8 @@ loop-rank-preserved g c =
 pub returns-clause-farthest : goal.returns-clause-farthest
 returns-clause-farthest g c = λ images says.
     farthest-all _ _ _ _ _ (c.loop-rank.invariant.found images says).1.1 (omega (arith, c.size-rank-end.ensures.boards)) c.if-not-asked.false
+
+pub returns-in_err-entry-clause-fault : goal.returns-in_err-entry-clause-fault
+returns-in_err-entry-clause-fault g c =
+    err_same c.from_residual-in_err-entry.result _ _ c.from_residual-in_err-entry.ensures.1 (
+    list_entry c.args.asked.source c.args.asked.level _ _ _ _ c.loop-rank.invariant.unchanged.stands c.in_err-entry.ensures.fault)

@@ -1,9 +1,11 @@
-use Rattle.std.proofs.Common.{◌≡◌, true, ap, arith, take, subst, sym, ◌∙◌}
+use Rattle.std.proofs.Common.{◌≡◌, true, ap, arith, sum, take, subst, sym, ◌∙◌}
 use Rattle.std.proofs.lemmas.List.{take_all}
 use Rattle.awari_facts.proofs.SourceLaws.{says_still}
 use Rattle.awari_folder.proofs.States.{unchanged, unchanged_then}
 use Rattle.awari_table.proofs.ShelfLemmas.{take-read}
 use Rattle.awari_table.specs.Images.{entry_of}
+use Rattle.awari_play.proofs.Lasting.{err_same}
+use Rattle.awari_levels.proofs.FaultLaws.{list_board}
 use Rattle.awari_levels.proofs.HeldLaws.{held-long, held-next}
 use Rattle.awari_levels.proofs.SourceLaws.{at_board}
 use Rattle.awari_levels.proofs.ListingLaws.{Lists, lists-all, lists-more, lists-none}
@@ -35,3 +37,8 @@ returns-clause-printed g c = λ images says boards held done.
     lists-all c.args.asked.wanted.now images (take c.loop-place.place boards) boards _ _ _ _ (c.loop-place.invariant.listed images says boards held)
     (take_all c.loop-place.place boards (omega (arith, c.loop-place-test.false, held-long c.args.asked.wanted.now images c.args.asked.level boards c.args.held.now held)))
     (rw c.as_slice.ensures.value at (c.print_bytes.ensures written))
+
+pub returns-in_err-entry-clause-fault : goal.returns-in_err-entry-clause-fault
+returns-in_err-entry-clause-fault g c =
+    err_same c.from_residual.result _ _ c.from_residual.ensures.1 (
+    list_board c.args.asked.source c.args.asked.level _ _ c.new.result _ c.loop-place.invariant.unchanged.stands (ap sum c.new.ensures ∙ c.unrank-board.ensures.stones) c.in_err-entry.ensures.fault)
