@@ -37,10 +37,9 @@ follows_more plan side (y ∷ xs) x from s play is follows = (follows.0, follows
 abbrev pub NoSooner : ℕ → List ℕ → List ℕ → Type 0
 NoSooner limit board moves = (n : ℕ) (s : Standing) (o : ℤ) → n < length moves → IsPlay (start board) (take n moves) s → IsOutcome limit s o → ⊥
 
--- Both sides have followed the plans so far, on boards of a shelf with this many levels, and no shorter beginning had an outcome.
-pub record IsUnderWay (t : Table) (levels limit : ℕ) (board : List ℕ) (seen : Standing) (moves : List ℕ) : Type 0 where
+-- Both sides have followed the plans so far, and no shorter beginning had an outcome.
+pub record IsUnderWay (t : Table) (limit : ℕ) (board : List ℕ) (seen : Standing) (moves : List ℕ) : Type 0 where
   pub shows : Shows seen board moves
-  pub known : sum seen.board < levels
   pub first : Follows t.plan true (start board) moves
   pub second : Follows t.plan false (start board) moves
   pub no_sooner : NoSooner limit board moves
@@ -80,17 +79,12 @@ seen_after seen later board moves x shows further =
       ),
     )
 
-pub under_way-more : (t : Table) (levels limit : ℕ) (board : List ℕ) (seen later : Standing) (moves : List ℕ) (x : ℕ) → IsUnderWay t levels limit board seen moves
-    → IsBoard seen.board → IsLegal seen.board x → t.plan seen.board ≡ Some x → HasNone limit seen → Shows later board (moves ++ x ∷ [])
-    → IsUnderWay t levels limit board later (moves ++ x ∷ [])
-under_way-more t levels limit board seen later moves x before is_board legal plan none shows =
-    let after_it = seen_after seen later board moves x before.shows shows in
-    let kept = stones_kept seen.board x _ _ is_board (move_of seen.board x legal) in
-    let left : sum later.board ≡ sum (next_board seen.board x) = ap sum after_it.0 in
+pub under_way-more : (t : Table) (limit : ℕ) (board : List ℕ) (seen later : Standing) (moves : List ℕ) (x : ℕ) → IsUnderWay t limit board seen moves → t.plan seen.board ≡ Some x
+    → HasNone limit seen → Shows later board (moves ++ x ∷ []) → IsUnderWay t limit board later (moves ++ x ∷ [])
+under_way-more t limit board seen later moves x before plan none shows =
     let planned : t.plan before.shows.standing.board ≡ Some x = subst (λ b. t.plan b ≡ Some x) before.shows.shown.board plan in
     record {
       shows = shows;
-      known = omega (arith, before.known, kept, left);
       first = follows_more t.plan true moves x (start board) before.shows.standing before.shows.play (λ mine. planned) before.first;
       second = follows_more t.plan false moves x (start board) before.shows.standing before.shows.play (λ mine. planned) before.second;
       no_sooner = no_sooner-more limit board moves x seen before.shows none before.no_sooner;
@@ -122,9 +116,9 @@ left_of-more limit seen later board moves x is_board legal low small shows furth
     (subst (λ n. sum (next_board seen.board x) * (limit + 2) + (limit + 1 - later.quiet) < n * (limit + 2) + (limit + 1 - seen.quiet)) kept fewer)
 
 -- an outcome of a play under way makes it the line
-pub best_line-end : (t : Table) (levels limit : ℕ) (board : List ℕ) (seen : Standing) (moves : List ℕ) (o : ℤ) → IsUnderWay t levels limit board seen moves
+pub best_line-end : (t : Table) (limit : ℕ) (board : List ℕ) (seen : Standing) (moves : List ℕ) (o : ℤ) → IsUnderWay t limit board seen moves
     → ((s : Standing) → IsShown seen s → IsOutcome limit s o) → IsBestLine t limit board moves o
-best_line-end t levels limit board seen moves o way out =
+best_line-end t limit board seen moves o way out =
     record {
       last = way.shows.standing;
       play = way.shows.play;

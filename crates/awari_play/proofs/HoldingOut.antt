@@ -213,16 +213,6 @@ holds_more : (t : Table) (side : Bool) (xs : List ℕ) (x : ℕ) (from s : Stand
 holds_more t side [] x from s play is holds = (subst (λ (v : Standing). v.first_moves ≡ side → HoldsLongest t v.board x) play is, tt)
 holds_more t side (y ∷ xs) x from s play is holds = (holds.0, holds_more t side xs x (after from y) s play.1 is holds.1)
 
--- The play of a longest line after k plies, on boards of a table with this many levels.
-pub record IsHeld (t : Table) (levels k : ℕ) (board : List ℕ) (seen : Standing) (moves : List ℕ) : Type 0 where
-  pub shows : Shows seen board moves
-  pub size : length moves ≡ k
-  pub known : sum seen.board < levels
-  pub favoured : Follows t.plan (favours_mover t board) (start board) moves
-  pub other : HoldsOut t (not (favours_mover t board)) (start board) moves
-  pub quiet : StaysQuiet board moves
-  pub way : IsOnWay t (favours_mover t board) (t.dist board) k shows.standing
-
 first_won : (v : ℤ) → true ≡ int_lt (pos 0) v → pos 0 <ℤ v
 first_won v e = grind (arith, ints, nat_tests)
 
@@ -234,53 +224,6 @@ good_start t board r far = record {
   won = first_won (t.value board);
   lost = first_lost (t.value board) (λ even. omega (arith, r.distances.even even, far));
 }
-
-pub held-start : (t : Table) (levels : ℕ) (board : List ℕ) (seen : Standing) → sum board < levels → IsRight t board → Shows seen board [] → IsHeld t levels 0 board seen []
-held-start t levels board seen low r shows =
-    let at : shows.standing ≡ start board = shows.play in
-    let there : seen.board ≡ board = shows.shown.board ∙ ap (λ (s : Standing). s.board) at in
-    let opened : IsOpen t (favours_mover t board) (t.dist board) 0 (start board) = record { quiet = refl; left = omega arith; good = good_start t board r } in
-    record {
-      shows = shows;
-      size = refl;
-      known = subst (λ b. sum b < levels) (sym there) low;
-      favoured = tt;
-      other = tt;
-      quiet = λ n s below. absurd (omega (arith, below));
-      way = inr (subst (IsOpen t (favours_mover t board) (t.dist board) 0) (sym at) opened);
-    }
-
--- a ply on the way has a board whose distance is not 0
-pub held-far : (t : Table) (levels k : ℕ) (board : List ℕ) (seen : Standing) (moves : List ℕ) → k < t.dist board → IsHeld t levels k board seen moves → 1 ≤ t.dist seen.board
-held-far t levels k board seen moves near held =
-    let still = open_at t _ _ _ _ near held.way in
-    let left = still.left in
-    subst (λ b. 1 ≤ t.dist b) (sym held.shows.shown.board) (omega (arith, left, near))
-
-pub held-more : (t : Table) (levels k : ℕ) (board : List ℕ) (seen later : Standing) (moves : List ℕ) (x : ℕ) → k < t.dist board → IsBoard seen.board → IsRight t seen.board
-    → IsDuePit t seen.board x → IsHeld t levels k board seen moves → Shows later board (moves ++ x ∷ []) → IsHeld t levels (k + 1) board later (moves ++ x ∷ [])
-held-more t levels k board seen later moves x near whole r due held shows =
-    let s = held.shows.standing in
-    let at : shows.standing ≡ after s x = one_more moves x (start board) s shows.standing held.shows.play shows.play in
-    let there : seen.board ≡ s.board = held.shows.shown.board in
-    let right : IsRight t s.board = subst (IsRight t) there r in
-    let mine : IsDuePit t s.board x = subst (λ b. IsDuePit t b x) there due in
-    let still : IsOpen t (favours_mover t board) (t.dist board) k s = open_at t _ _ _ _ near held.way in
-    let good = still.good (omega (arith, near)) in
-    let left : later.board ≡ next_board seen.board x = shows.shown.board ∙ ap (λ (v : Standing). v.board) at ∙ ap (λ b. next_board b x) (sym there) in
-    let move : IsMove seen.board x (captured seen.board x) (next_board seen.board x) = move_of seen.board x due.legal in
-    let kept = stones_kept seen.board x _ _ whole move in
-    let fewer : sum later.board ≡ sum (next_board seen.board x) = ap sum left in
-    let more = length-append moves (x ∷ []) in
-    record {
-      shows = shows;
-      size = omega (arith, more, held.size);
-      known = omega (arith, held.known, kept, fewer);
-      favoured = follows_more t.plan _ moves x (start board) s held.shows.play (λ turn. mine.favoured (good.won turn)) held.favoured;
-      other = holds_more t _ moves x (start board) s held.shows.play (λ turn. mine.other (good.lost turn)) held.other;
-      quiet = stays_quiet-more board moves x s held.shows.play (still.quiet ∙ sym held.size) held.quiet;
-      way = subst (IsOnWay t (favours_mover t board) (t.dist board) (k + 1)) (sym at) (way-more t _ _ k s x right mine near still);
-    }
 
 either_side : (first moves : Bool) → (moves ≡ first) ⊎ (moves ≡ not first)
 either_side true true = inl refl
@@ -298,54 +241,91 @@ some_moves : (moves : List ℕ) → moves ≢ [] → 0 < length moves
 some_moves [] some = absurd (some refl)
 some_moves (x ∷ xs) some = omega arith
 
--- after as many plies as the distance it is the line
-pub held-end : (t : Table) (levels k : ℕ) (board : List ℕ) (seen : Standing) (moves : List ℕ) → k ≡ t.dist board → IsRight t seen.board → IsHeld t levels k board seen moves
-    → IsLongestLine t board moves
-held-end t levels k board seen moves all r held = record {
-  last = held.shows.standing;
-  play = held.shows.play;
-  favoured = held.favoured;
-  other = held.other;
-  quiet = held.quiet;
-  ends = λ some. elim held.way [
-    | inl come ↦ inl come.0
-    | inr still ↦ inr (ended (omega (arith, some_moves moves some, held.size, all)) still)
-  ];
-  size = held.size ∙ all;
-}
-  where
-    right : IsRight t held.shows.standing.board
-    right = subst (IsRight t) held.shows.shown.board r
-
-    ended : 0 < t.dist board → IsOpen t (favours_mover t board) (t.dist board) k held.shows.standing → IsEnded held.shows.standing.board
-    ended some still = λ x legal.
-        let far = (DistancesFall-least t _ right.distances).uneven (λ stuck. stuck x legal) (good_uneven t _ _ (still.good some)) in
-        let left = still.left in
-        omega (arith, far, left, all)
-
--- The same with the entry of the board, which is right.
-pub record IsHeldBy (images : List Image) (levels k : ℕ) (board : List ℕ) (seen : Standing) (e : Entry) (moves : List ℕ) : Type 0 where
-  pub held : IsHeld (table_of images) levels k board seen moves
-  pub right : IsRight (table_of images) seen.board
+-- The play of a longest line after k plies, by what images say. This is the entry of its board, which is right.
+pub record IsHeld (images : List Image) (k : ℕ) (board : List ℕ) (seen : Standing) (e : Entry) (moves : List ℕ) : Type 0 where
+  pub shows : Shows seen board moves
+  pub size : length moves ≡ k
+  pub favoured : Follows (table_of images).plan (favours_mover (table_of images) board) (start board) moves
+  pub other : HoldsOut (table_of images) (not (favours_mover (table_of images) board)) (start board) moves
+  pub quiet : StaysQuiet board moves
+  pub way : IsOnWay (table_of images) (favours_mover (table_of images) board) ((table_of images).dist board) k shows.standing
   pub entry : e ≡ entry_of images seen.board
+  pub right : IsRight (table_of images) seen.board
 
-pub by-start : (images : List Image) (levels : ℕ) (board : List ℕ) (seen : Standing) (e : Entry) → sum board < levels → IsRight (table_of images) board → e ≡ entry_of images board → Shows seen board []
-    → IsHeldBy images levels 0 board seen e []
-by-start images levels board seen e low r same shows =
-    let there : seen.board ≡ board = shows.shown.board ∙ ap (λ (s : Standing). s.board) shows.play in
-    record { held = held-start (table_of images) levels board seen low r shows; right = subst (IsRight (table_of images)) (sym there) r; entry = same ∙ sym (ap (entry_of images) there) }
+module _ (images : List Image) (board : List ℕ) where
+  abbrev t : Table
+  t = table_of images
 
--- a board on the way is left by a ply
-pub by-far : (images : List Image) (levels k : ℕ) (board : List ℕ) (seen : Standing) (e : Entry) (moves : List ℕ) → k < (table_of images).dist board → IsHeldBy images levels k board seen e moves → IsFar images seen.board e
-by-far images levels k board seen e moves near by = record { entry = by.entry; right = by.right; far = held-far (table_of images) levels k board seen moves near by.held }
+  abbrev first : Bool
+  first = favours_mover t board
 
-pub by-more : (images : List Image) (levels k : ℕ) (board : List ℕ) (seen later : Standing) (e f : Entry) (moves : List ℕ) (x : ℕ) → k < (table_of images).dist board → IsBoard seen.board → IsDuePit (table_of images) seen.board x
-    → IsHeldBy images levels k board seen e moves → Shows later board (moves ++ x ∷ []) → IsRight (table_of images) later.board → f ≡ entry_of images later.board → IsHeldBy images levels (k + 1) board later f (moves ++ x ∷ [])
-by-more images levels k board seen later e f moves x near whole due by shows r same =
-    record { held = held-more (table_of images) levels k board seen later moves x near whole by.right due by.held shows; right = r; entry = same }
+  pub held-start : (seen : Standing) (e : Entry) → IsRight t board → e ≡ entry_of images board → Shows seen board [] → IsHeld images 0 board seen e []
+  held-start seen e r same shows =
+      let at : shows.standing ≡ start board = shows.play in
+      let there : seen.board ≡ board = shows.shown.board ∙ ap (λ (s : Standing). s.board) at in
+      let opened : IsOpen t first (t.dist board) 0 (start board) = record { quiet = refl; left = omega arith; good = good_start t board r } in
+      record {
+        shows = shows;
+        size = refl;
+        favoured = tt;
+        other = tt;
+        quiet = λ n s below. absurd (omega (arith, below));
+        way = inr (subst (IsOpen t first (t.dist board) 0) (sym at) opened);
+        entry = same ∙ sym (ap (entry_of images) there);
+        right = subst (IsRight t) (sym there) r;
+      }
 
-pub by-end : (images : List Image) (levels k : ℕ) (board : List ℕ) (seen : Standing) (e : Entry) (moves : List ℕ) → k ≡ (table_of images).dist board → IsHeldBy images levels k board seen e moves → IsLongestLine (table_of images) board moves
-by-end images levels k board seen e moves all by = held-end (table_of images) levels k board seen moves all by.right by.held
+  -- a ply on the way has a board whose distance is not 0
+  pub held-far : (k : ℕ) (seen : Standing) (e : Entry) (moves : List ℕ) → k < t.dist board → IsHeld images k board seen e moves → IsFar images seen.board e
+  held-far k seen e moves near held =
+      let left = (open_at t _ _ _ _ near held.way).left in
+      record { entry = held.entry; right = held.right; far = subst (λ b. 1 ≤ t.dist b) (sym held.shows.shown.board) (omega (arith, left, near)) }
+
+  pub held-more : (k : ℕ) (seen later : Standing) (e f : Entry) (moves : List ℕ) (x : ℕ) → k < t.dist board → IsDuePit t seen.board x → IsHeld images k board seen e moves
+      → Shows later board (moves ++ x ∷ []) → IsRight t later.board → f ≡ entry_of images later.board → IsHeld images (k + 1) board later f (moves ++ x ∷ [])
+  held-more k seen later e f moves x near due held shows r same =
+      let s = held.shows.standing in
+      let at : shows.standing ≡ after s x = one_more moves x (start board) s shows.standing held.shows.play shows.play in
+      let there : seen.board ≡ s.board = held.shows.shown.board in
+      let right : IsRight t s.board = subst (IsRight t) there held.right in
+      let mine : IsDuePit t s.board x = subst (λ b. IsDuePit t b x) there due in
+      let still : IsOpen t first (t.dist board) k s = open_at t _ _ _ _ near held.way in
+      let good = still.good (omega (arith, near)) in
+      let more = length-append moves (x ∷ []) in
+      record {
+        shows = shows;
+        size = omega (arith, more, held.size);
+        favoured = follows_more t.plan _ moves x (start board) s held.shows.play (λ turn. mine.favoured (good.won turn)) held.favoured;
+        other = holds_more t _ moves x (start board) s held.shows.play (λ turn. mine.other (good.lost turn)) held.other;
+        quiet = stays_quiet-more board moves x s held.shows.play (still.quiet ∙ sym held.size) held.quiet;
+        way = subst (IsOnWay t first (t.dist board) (k + 1)) (sym at) (way-more t _ _ k s x right mine near still);
+        entry = same;
+        right = r;
+      }
+
+  -- after as many plies as the distance it is the line
+  pub held-end : (k : ℕ) (seen : Standing) (e : Entry) (moves : List ℕ) → k ≡ t.dist board → IsHeld images k board seen e moves → IsLongestLine t board moves
+  held-end k seen e moves all held = record {
+    last = held.shows.standing;
+    play = held.shows.play;
+    favoured = held.favoured;
+    other = held.other;
+    quiet = held.quiet;
+    ends = λ some. elim held.way [
+      | inl come ↦ inl come.0
+      | inr still ↦ inr (ended_at (omega (arith, some_moves moves some, held.size, all)) still)
+    ];
+    size = held.size ∙ all;
+  }
+    where
+      right : IsRight t held.shows.standing.board
+      right = subst (IsRight t) held.shows.shown.board held.right
+
+      ended_at : 0 < t.dist board → IsOpen t first (t.dist board) k held.shows.standing → IsEnded held.shows.standing.board
+      ended_at some still = λ x legal.
+          let far = (DistancesFall-least t _ right.distances).uneven (λ stuck. stuck x legal) (good_uneven t _ _ (still.good some)) in
+          let left = still.left in
+          omega (arith, far, left, all)
 
 -- ---- the pit by an entry
 

@@ -8,6 +8,7 @@ use Rattle.awari_block.specs.declared.stakes.Stake.{Stake}
 use Rattle.awari_segments.specs.Segments.{AreSegments}
 use Rattle.awari_heard.specs.Level.{part_at}
 use Rattle.awari_rank.specs.Rank.{size_of}
+use Rattle.awari_packed.proofs.Moving.{one_more_of}
 
 -- The boards of the level, `span` in each block and fewer in the last.
 pub record AreConsecutive (stake : Stake) (span : ℕ) (parts : List Part) : Type 0 where
@@ -17,9 +18,6 @@ pub record AreConsecutive (stake : Stake) (span : ℕ) (parts : List Part) : Typ
   pub start : (i : ℕ) → i < length parts → (part_at parts i).start ≡ i * span
   pub end : (i : ℕ) → i < length parts → (part_at parts i).start + length (part_at parts i).cells ≡ min ((i + 1) * span) (size_of stake.level)
   pub all : size_of stake.level ≤ length parts * span
-
-next : (k s : ℕ) → (k + 1) * s ≡ k * s + s
-next k s = (let e : k + 1 ≡ suc k = omega arith in ap (λ j. j * s) e) ∙ suc-mul k s
 
 div_at : (r k s : ℕ) → 0 < s → k * s ≤ r → r < k * s + s → r / s ≡ k
 div_at r k s some low high = elim (cases_eq (r / s) k) [
@@ -42,12 +40,12 @@ grid_of stake span parts some are = record {
       let end = are.end (rank / span) few in
       let low = div-mul-le_self rank span in
       let high = lt-div-mul-add {a = rank} {b = span} some in
-      let e = next (rank / span) span in
+      let e = one_more_of (rank / span) span in
       (few, (omega (arith, start, low), omega (arith, start, end, low, high, e, h)));
   only = λ i rank h inside.
       let start = are.start i h in
       let end = are.end i h in
-      let e = next i span in
+      let e = one_more_of i span in
       let a = inside.0 in
       let b = inside.1 in
       div_at rank i span some (omega (arith, start, a)) (omega (arith, start, end, a, b, e));

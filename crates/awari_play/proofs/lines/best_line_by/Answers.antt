@@ -9,7 +9,7 @@ use Rattle.awari_play.proofs.lines.best_line_by.Goals as goal
 pub returns-in-Some-clause-line : goal.returns-in-Some-clause-line
 returns-in-Some-clause-line g c = λ images says.
     let fits : SFits w16 c.in-Some.outcome = search rules in
-    rw (to_z-of_z w16 _ fits) (best_line-end _ _ _ _ _ _ _ (c.loop-outcome.invariant.way images says) (λ s shown. (c.in-Some.ensures.some s c.in-Some.outcome shown).0 refl))
+    rw (to_z-of_z w16 _ fits) (best_line-end _ _ _ _ _ _ (c.loop-outcome.invariant.way images says) (λ s shown. (c.in-Some.ensures.some s c.in-Some.outcome shown).0 refl))
 
 pub loop-outcome-smaller : goal.loop-outcome-smaller
 loop-outcome-smaller g c =
@@ -31,7 +31,7 @@ loop-outcome-preserved g c =
       known = known_more _ _ _ _ _ _ i.shows played c.board.ensures.board legal i.known;
       way = λ images says.
           let planned = subst (λ b. (table_of images).plan b ≡ Some c.in_ok-pit.pit) c.board.ensures.shown (c.in_ok-pit.ensures.plan images (laws.says _ _ images i.keeps says)) in
-          rw (c.in-Ok.ensures.items) (under_way-more _ _ _ _ _ _ _ _ (i.way images says) c.board.ensures.board legal planned none played);
+          rw (c.in-Ok.ensures.items) (under_way-more _ _ _ _ _ _ _ (i.way images says) planned none played);
       keeps = laws.on _ _ _ i.keeps c.plan_by.ensures.keeps;
     }
 

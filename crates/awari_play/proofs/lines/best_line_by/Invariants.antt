@@ -12,7 +12,7 @@ invariant-loop-outcome g l =
       shows : Shows l.game l.fn.board l.moves.items;
       known : sum l.game.board < saying.levels l.fn.table;
       way : (images : List Image) → saying.says l.fn.table images
-          → IsUnderWay (table_of images) (saying.levels l.fn.table) l.limit l.fn.board l.game l.moves.items;
+          → IsUnderWay (table_of images) l.limit l.fn.board l.game l.moves.items;
       keeps : saying.keeps l.fn.table l.table;
     }
 

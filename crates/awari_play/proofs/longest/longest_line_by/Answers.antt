@@ -6,7 +6,7 @@ use Rattle.awari_table.specs.declared.images.Entry.{Entry}
 use Rattle.awari_play.specs.Holding.{IsFar}
 use Rattle.awari_play.specs.LongestLine.{IsDuePit}
 use Rattle.awari_play.proofs.Following.{known_more, known_start}
-use Rattle.awari_play.proofs.HoldingOut.{by-end, by-far, by-more, by-start}
+use Rattle.awari_play.proofs.HoldingOut.{held-end, held-far, held-more, held-start}
 use Rattle.awari_play.proofs.Lasting.{err_same, still_known, unheld_before}
 use Rattle.awari_play.proofs.longest.longest_line_by.Goals as goal
 
@@ -18,7 +18,7 @@ loop-init g c =
       known = known_start _ _ _ c.start-game.ensures c.requires;
       held = λ images says.
           let entry = c.in_ok-entry.ensures.entry images says in
-          (rw empty (by-start images _ _ _ _ c.requires (c.in_ok-entry.ensures.right images says) entry c.start-game.ensures), ap (λ (e : Entry). e.dist) entry);
+          (rw empty (held-start images c.args.board _ _ (c.in_ok-entry.ensures.right images says) entry c.start-game.ensures), ap (λ (e : Entry). e.dist) entry);
       keeps = c.right_entry.ensures.keeps;
     }
 
@@ -27,7 +27,7 @@ due_pit-requires-clause-far g c = λ images says.
     let i = c.loop.invariant in
     let both = i.held images (g.met.T.Table.lasting.said _ _ images i.keeps says) in
     let near : c.loop.counter < (table_of images).dist c.args.board = omega (arith, c.loop-test.true, both.1) in
-    subst (λ b. IsFar images b c.loop.entry) (sym c.board.ensures.shown) (by-far images _ _ _ _ _ _ near both.0)
+    subst (λ b. IsFar images b c.loop.entry) (sym c.board.ensures.shown) (held-far images c.args.board _ _ _ _ near both.0)
 
 pub loop-preserved : goal.loop-preserved
 loop-preserved g c =
@@ -46,14 +46,14 @@ loop-preserved g c =
           let said = laws.says _ _ images kept says in
           let right = subst (IsRight (table_of images)) c.board-in-loop.ensures.shown (c.in_ok-entry-2.ensures.right images said) in
           let entry = c.in_ok-entry-2.ensures.entry images said ∙ ap (entry_of images) c.board-in-loop.ensures.shown in
-          (rw (c.in-Ok.ensures.items) (by-more images _ _ _ _ _ _ _ _ _ near c.board.ensures.board due both.0 played right entry), both.1);
+          (rw (c.in-Ok.ensures.items) (held-more images c.args.board _ _ _ _ _ _ _ near due both.0 played right entry), both.1);
       keeps = laws.on _ _ _ kept c.right_entry-in-loop.ensures.keeps;
     }
 
 pub returns-clause-line : goal.returns-clause-line
 returns-clause-line g c = λ images says.
     let both = c.loop.invariant.held images says in
-    by-end images _ _ _ _ _ _ (omega (arith, c.loop-test.false, c.loop.auto.counter-end, both.1)) both.0
+    held-end images c.args.board _ _ _ _ (omega (arith, c.loop-test.false, c.loop.auto.counter-end, both.1)) both.0
 
 pub returns-in_err-pit-clause-fault : goal.returns-in_err-pit-clause-fault
 returns-in_err-pit-clause-fault g c =
