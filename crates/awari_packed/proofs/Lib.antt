@@ -2,7 +2,7 @@ mod Digits
 mod Emptying
 pub mod FallTables
 mod Halves
-mod Moving
+pub mod Moving
 mod PairTables
 mod RankSums
 mod Taking
