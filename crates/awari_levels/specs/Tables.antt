@@ -1,6 +1,12 @@
 -- A table of numbers of boards, row by row. Private functions alone go by this: no public contract does.
-use Rattle.std.specs.Prelude.{◌≡◌, true, ℕ, ◌+◌, ◌*◌, ◌<◌, ◌≤◌, List, count_by, length, slice_get, slice_index, slice_index_or, take, ℤ, Option, Some, None, IfSome}
+use Rattle.std.specs.Prelude.{◌≡◌, ◌⊎◌, true, ℕ, ◌+◌, ◌*◌, ◌<◌, ◌≤◌, List, count_by, length, slice_get, slice_index, slice_index_or, take, ℤ, Option, Some, None, IfSome}
 use Rattle.awari_facts.specs.Numbers.{is_own, number_in}
+use Rattle.awari_folder.specs.declared.faults.FolderFault.{FolderFault}
+use Rattle.awari_folder.specs.declared.faults.FolderFault.TheVariants.{Memory, Verify}
+use Rattle.awari_places.specs.Faults.{IsFaultFrom}
+use Rattle.awari_places.specs.Places.{Says}
+use Rattle.awari_verify.specs.declared.rules.Rule.TheVariants.{V7}
+use Rattle.awari_verify.specs.declared.verdicts.VerifyFault.TheVariants.{Refused}
 use Rattle.awari_queries.specs.declared.columns.Pair.{Pair}
 use Rattle.awari_rank.specs.Rank.{size_of}
 use Rattle.awari_rank.specs.Tuples.{tuples}
@@ -46,6 +52,20 @@ pub record AreTabled (images : List Image) (table : Table) (boards : List (List 
 -- this many boards of the level are counted
 abbrev pub AreTabledTo : List Image → Table → ℕ → List ℕ → Type 0
 AreTabledTo images table rank counts = AreTabled images table (take rank (tuples 12 table.level)) counts
+
+-- 83 with V7 of a level
+abbrev pub wrong_limit : ℕ → FolderFault
+wrong_limit level = Verify level (Refused 0 V7)
+
+-- some board of the level has no cell, by what the files say
+pub record HasNoCell (table : Table) (stands : ℕ → Option (Option (List ℕ))) : Type 0 where
+  pub some : (levels : ℕ) (images : List Image) → Says stands levels images → table.level < levels → (rank : ℕ) × (board : List ℕ) × (slice_get (tuples 12 table.level) rank ≡ Some board)
+      × ((cell : ℕ) → IsCellOf images table board cell → ⊥)
+
+-- Why the boards of a level are not counted by its file: 84, or as the entry of some rank is refused, or 83 with V7 if a board has no
+-- cell.
+abbrev pub IsCountFault : Table → (ℕ → Option (Option (List ℕ))) → FolderFault → Type 0
+IsCountFault table stands fault = (fault ≡ Memory) ⊎ (IsFaultFrom table.level 0 (stands table.level) fault ⊎ ((fault ≡ wrong_limit table.level) × HasNoCell table stands))
 
 -- the board of a rank is in this cell
 pub record HasCell (images : List Image) (table : Table) (rank cell : ℕ) : Type 0 where

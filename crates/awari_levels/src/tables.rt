@@ -1,15 +1,14 @@
 //! How many boards of a level have each pair of numbers of two columns.
 
-ghost use Rattle.std.specs.Prelude.{◌≡◌, ◌<◌, ◌≤◌, ◌+◌, ◌^◌, ℕ, List, IfErr, IfOk, IfSome, IsNone, slice_index, slice_set, vec_len};
+ghost use Rattle.std.specs.Prelude.{◌≡◌, ◌<◌, ◌≤◌, ◌+◌, ◌^◌, ℕ, List, IfErr, IfOk, IfSome, IsNone, OnErr, slice_index, slice_set, vec_len};
 ghost use Rattle.awari_facts.specs.Numbers.{IsAt};
-ghost use Rattle.awari_folder.specs.FolderFault.{Names};
 ghost use Rattle.awari_folder.specs.State.{Unchanged};
 ghost use Rattle.awari_places.specs.Places.{Says};
 ghost use Rattle.awari_rank.specs.Rank.{size_of};
 ghost use Rattle.awari_rank.specs.Tuples.{tuples};
 ghost use Rattle.awari_table.specs.declared.TheConstants.{HIGHEST_LEVEL};
 ghost use Rattle.awari_table.specs.declared.images.Image.{Image};
-ghost use Rattle.awari_levels.specs.Tables.{AreTabled, IsCell, IsCellOf, IsOwn, cells_of};
+ghost use Rattle.awari_levels.specs.Tables.{AreTabled, IsCell, IsCellOf, IsCountFault, IsOwn, cells_of, wrong_limit};
 
 use crate::ranges::{place_of, width_of};
 use awari_facts::{Seen, own_number};
@@ -71,7 +70,8 @@ fn own_cell(table: Table, seen: &Seen) -> Result<usize, FolderFault>
     requires cells { cells_of table < 2 ^ 64 }
     ensures inside { IfOk result (λ cell. cell < cells_of table) }
     ensures cell { (images : List Image) (board : List ℕ) → IsAt images seen.now.level seen.now.rank board seen.now.entry → IfOk result (IsCellOf images table board) }
-    ensures named { IfErr result (Names table.level) }
+    ensures none { (images : List Image) (board : List ℕ) → IsAt images seen.now.level seen.now.rank board seen.now.entry → OnErr result ((cell : ℕ) → IsCellOf images table board cell → ⊥) }
+    ensures fault { IfErr result (λ fault. fault ≡ wrong_limit table.level) }
 {
     let Some(first) = own_number(table.pair.first, seen) else {
         unreachable!()
@@ -110,7 +110,7 @@ pub(crate) fn count_own<F: Folder>(
     ensures counted { (levels : ℕ) (images : List Image) → Says (F.state folder.old).stands levels images → table.level < levels
         → IfOk result (λ counts. AreTabled images table (tuples 12 table.level) counts.items) }
     ensures same { Unchanged (F.state folder.old) (F.state folder.new) }
-    ensures named { IfErr result (Names table.level) }
+    ensures fault { IfErr result (IsCountFault table (F.state folder.old).stands) }
 {
     let level = table.level;
     let mut counts = new_counts(alloc, table)?;
@@ -123,9 +123,9 @@ pub(crate) fn count_own<F: Folder>(
     Ok(counts)
 }
 
-/// The refusal of a level that has a distance above its limit.
+/// The refusal of a level that has a distance above its limit: 83 with V7.
 pub(crate) fn wrong_limit(level: u8) -> FolderFault
-    ensures { Names level result }
+    ensures { result ≡ wrong_limit level }
 {
     FolderFault::Verify {
         level,

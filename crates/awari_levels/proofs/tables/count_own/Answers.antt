@@ -1,7 +1,8 @@
-use Rattle.std.proofs.Common.{◌<◌, ◌≤◌, length, arith}
+use Rattle.std.proofs.Common.{◌<◌, ◌≤◌, inl, inr, length, arith}
 use Rattle.awari_folder.proofs.States.{unchanged, unchanged_then}
 use Rattle.awari_places.proofs.Reading.{still_says}
-use Rattle.awari_places.proofs.Running.{run-none}
+use Rattle.awari_places.proofs.Running.{fault_before, run-none}
+use Rattle.awari_play.proofs.Lasting.{err_same}
 use Rattle.awari_rank.specs.Rank.{size_of}
 use Rattle.awari_levels.proofs.CellLaws.{tabled-all, tabled-more, tabled-none, few-more}
 use Rattle.awari_levels.proofs.SourceLaws.{some_entry}
@@ -38,3 +39,25 @@ loop-rank-preserved g c =
 pub returns-clause-counted : goal.returns-clause-counted
 returns-clause-counted g c = λ levels images says low.
     tabled-all images c.args.table c.loop-rank.rank c.loop-rank.counts.items (c.loop-rank.invariant.counted levels images says low).1 (omega (arith, c.size-rank-end.ensures.boards))
+
+pub returns-in_err-entry-clause-fault : goal.returns-in_err-entry-clause-fault
+returns-in_err-entry-clause-fault g c =
+    err_same c.from_residual-in_err-entry.result _ _ c.from_residual-in_err-entry.ensures.1 (
+    inr (inl (fault_before c.args.table.level c.loop-rank.rank 0 _ _ _ c.loop-rank.invariant.unchanged.stands (omega arith) c.in_err-entry.ensures.fault)))
+
+pub returns-in_err-cell-clause-fault : goal.returns-in_err-cell-clause-fault
+returns-in_err-cell-clause-fault g c =
+    let i = c.loop-rank.invariant in
+    let few : c.args.table.level ≤ 24 = c.requires.level in
+    let ranked : c.loop-rank.rank < size_of c.args.table.level = omega (arith, c.loop-rank-test.true, c.size-rank-end.ensures.boards) in
+    err_same c.from_residual-in_err-cell.result _ _ c.from_residual-in_err-cell.ensures.1 (
+    inr (inr (
+      c.in_err-cell.ensures.fault,
+      record {
+        some = λ levels images says low.
+            let before = i.counted levels images says low in
+            let still = still_says _ _ levels images i.unchanged.stands says in
+            let (board, at) = some_entry images c.args.table.level c.loop-rank.rank c.in_ok-entry.entry (c.in_ok-entry.ensures.entry levels images still low before.0) few ranked in
+            (c.loop-rank.rank, board, at.listed, c.in_err-cell.ensures.none images board at);
+      },
+    )))
