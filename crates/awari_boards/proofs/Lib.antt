@@ -3,3 +3,4 @@ pub mod MemoLaws
 pub mod PlayLaws
 pub mod PlyLines
 pub mod Knowing
+pub mod SaidLaws

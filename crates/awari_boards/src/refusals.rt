@@ -5,7 +5,7 @@ ghost use Rattle.std.specs.Fmt.{decimal};
 ghost use Rattle.arrayvec.specs.ArrayVec.{array_vec_len};
 ghost use Rattle.awari_file.specs.FileFault.{fault_text as file_fault_text};
 ghost use Rattle.awari_folder.specs.FolderFault.{fault_text as folder_fault_text};
-ghost use Rattle.awari_unverified.specs.Unsaid.{line_of};
+ghost use Rattle.awari_boards.specs.Unsaid.{line_of};
 ghost use Rattle.awari_verify.specs.Rule.{rule_name};
 ghost use Rattle.awari_verify.specs.VerifyFault.{fault_text as verify_fault_text};
 

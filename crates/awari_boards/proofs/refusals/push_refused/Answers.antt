@@ -2,7 +2,7 @@ use Rattle.std.proofs.Common.{◌++◌, ◌∙◌, List, ℕ, append_assoc, ap, 
 use Rattle.std.specs.Fmt.{decimal}
 use Rattle.std.specs.Prelude.{codes}
 use Rattle.awari_verify.specs.Rule.{rule_name}
-use Rattle.awari_unverified.proofs.refusals.push_refused.Goals as goal
+use Rattle.awari_boards.proofs.refusals.push_refused.Goals as goal
 
 pub returns-clause-items : goal.returns-clause-items
 returns-clause-items c =
