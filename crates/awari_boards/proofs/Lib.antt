@@ -3,3 +3,5 @@ mod MemoLaws
 mod PlayLaws
 mod PlyLines
 mod Knowing
+mod Names
+mod SaidLaws

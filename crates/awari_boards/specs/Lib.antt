@@ -1,4 +1,5 @@
 pub mod Asks
+pub mod Held
 pub mod Judgement
 pub mod Known
 pub mod Lines
@@ -7,4 +8,6 @@ pub mod Places
 pub mod Playing
 pub mod Plays
 pub mod Plies
+pub mod Said
+pub mod Unsaid
 pub mod Worths

@@ -22,7 +22,7 @@ use Rattle.awari_queries.specs.declared.questions.CountsQuery.{CountsQuery}
 use Rattle.awari_levels.specs.Counts.{PrintsCountsBy}
 use Rattle.awari_boards.specs.Places.{PrintsBoard, PrintsPlace}
 use Rattle.awari_boards.specs.Plays.{PrintsPlays}
-use Rattle.awari_unverified.specs.Said.{PrintsServiceSaid}
+use Rattle.awari_boards.specs.Said.{PrintsServiceSaid}
 use Rattle.awari_words.specs.declared.requests.Question.{Question}
 use Rattle.awari_words.specs.declared.requests.Question.TheVariants.{Verify, Text, Ask, Moves, Line, Serve, Counts, Boards}
 use Rattle.awari_words.specs.declared.requests.Request.{Request}

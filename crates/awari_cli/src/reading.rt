@@ -7,12 +7,11 @@ ghost use Rattle.awari_folder.specs.Contents.{Same};
 
 use crate::serving::run_serve;
 use awari_answers::{Replies, Streams, print};
-use awari_boards::{run_ask, run_line, run_moves};
+use awari_boards::{run_ask, run_line, run_moves, run_serve_unverified};
 use awari_folder::Folder;
 use awari_host::{Host, Purpose};
 use awari_levels::{run_all_boards, run_boards, run_counts, run_pairs, run_text, run_verify};
 use awari_queries::CountsQuery;
-use awari_unverified::run_serve_unverified;
 use awari_words::Question;
 use std::alloc::Global;
 use std::io::{Read, Write};

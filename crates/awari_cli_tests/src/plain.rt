@@ -2,6 +2,7 @@
 //! promises is a premise of each goal behind it, and no test is proved from that: it is seen when the
 //! test runs.
 
+use awari_boards::run_serve_unverified;
 use awari_build::Pace;
 use awari_cli::{
     AskQuery, BuildProgress, Builder, Disk, HowTold, LineQuery, MovesQuery, ProgressLines, Replies,
@@ -13,7 +14,6 @@ use awari_folder::Folder;
 use awari_heard::Silent;
 use awari_levels::{run_all_boards, run_boards};
 use awari_queries::{BoardSpans, BoardsQuery};
-use awari_unverified::run_serve_unverified;
 use std::alloc::Global;
 use std::fs::File;
 use std::io::{self, Read, Write};

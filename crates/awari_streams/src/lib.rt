@@ -4,7 +4,7 @@
 //! [`push_text`], [`push_number`] and [`push_signed`]. [`read_number`] and [`after_word`] read what
 //! stands at the start of a text.
 //!
-//! A number with a space behind it, in `crates/awari_unverified/src/refusals.rt`:
+//! A number with a space behind it, in `crates/awari_boards/src/refusals.rt`:
 //!
 //!     fn push_number_of(line: &mut TextLine, number: u8)
 //!         requires { array_vec_len line.old ≤ 40 }

@@ -3,7 +3,7 @@
 ghost use Rattle.std.specs.Prelude.{◌≡◌, ◌≤◌, ◌+◌, OnOk};
 ghost use Rattle.awari_folder.specs.Contents.{Same};
 ghost use Rattle.awari_table.specs.declared.TheConstants.{HIGHEST_LEVEL};
-ghost use Rattle.awari_unverified.specs.Said.{IsServedSaid, PrintsServiceSaid};
+ghost use Rattle.awari_boards.specs.Said.{IsServedSaid, PrintsServiceSaid};
 
 use crate::asking::serve_files;
 use crate::files::Asked;

@@ -13,11 +13,11 @@ use Rattle.awari_table.specs.declared.images.Entry.{Entry}
 use Rattle.awari_places.specs.Asked.{Keeps, by_files as files_by, stands_in}
 use Rattle.awari_places.specs.Lasting.{files_last}
 use Rattle.awari_play.specs.Saying.{IsLasting}
-use Rattle.awari_unverified.specs.Held.{by_lent}
-use Rattle.awari_unverified.specs.Said.{AreMovesSaid, IsEntrySaid, IsServedSaid, by_files}
-use Rattle.awari_unverified.specs.declared.files.Asked.{Asked}
-use Rattle.awari_unverified.specs.declared.unsaid.Unsaid.{Unsaid}
-use Rattle.awari_unverified.specs.declared.unsaid.Unsaid.TheVariants.{NotYet, Folder}
+use Rattle.awari_boards.specs.Held.{by_lent}
+use Rattle.awari_boards.specs.Said.{AreMovesSaid, IsEntrySaid, IsServedSaid, by_files}
+use Rattle.awari_boards.specs.declared.files.Asked.{Asked}
+use Rattle.awari_boards.specs.declared.unsaid.Unsaid.{Unsaid}
+use Rattle.awari_boards.specs.declared.unsaid.Unsaid.TheVariants.{NotYet, Folder}
 
 abbrev Stands : Type 0
 Stands = ℕ → Option (Option (List ℕ))

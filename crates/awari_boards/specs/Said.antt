@@ -13,9 +13,9 @@ use Rattle.awari_table.specs.Images.{entry_of}
 use Rattle.awari_table.specs.declared.TheConstants.{HIGHEST_LEVEL}
 use Rattle.awari_table.specs.declared.images.Entry.{Entry}
 use Rattle.awari_table.specs.declared.images.Image.{Image}
-use Rattle.awari_unverified.specs.Unsaid.{line_of, number_of}
-use Rattle.awari_unverified.specs.declared.unsaid.Unsaid.{Unsaid}
-use Rattle.awari_unverified.specs.declared.unsaid.Unsaid.TheVariants.{NotYet, Folder}
+use Rattle.awari_boards.specs.Unsaid.{line_of, number_of}
+use Rattle.awari_boards.specs.declared.unsaid.Unsaid.{Unsaid}
+use Rattle.awari_boards.specs.declared.unsaid.Unsaid.TheVariants.{NotYet, Folder}
 
 -- The levels that are known stay. A board of one of them has this entry, where it is known what has the names: the one that the files
 -- say. Or it is refused as what has the name of its level is due to be. Any other board has no answer yet.

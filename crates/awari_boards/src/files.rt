@@ -16,7 +16,7 @@ pub(crate) struct Asked<'a, F> {
 }
 
 impl<F: Folder> Oracle for Asked<'_, F> {
-    ghost use Rattle.awari_unverified.specs.Held.{by_lent};
+    ghost use Rattle.awari_boards.specs.Held.{by_lent};
 
     type Fault = Unsaid;
 

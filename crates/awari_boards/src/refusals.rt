@@ -4,7 +4,7 @@ ghost use Rattle.std.specs.Prelude.{◌≡◌, ◌≤◌, ◌+◌, ◌++◌, ◌
 ghost use Rattle.arrayvec.specs.ArrayVec.{array_vec_len};
 ghost use Rattle.awari_faults.specs.Refusals.{refusal_text, with_number, words_text};
 ghost use Rattle.awari_folder.specs.FolderFault.{refusal_of};
-ghost use Rattle.awari_unverified.specs.Unsaid.{line_of};
+ghost use Rattle.awari_boards.specs.Unsaid.{line_of};
 ghost use Rattle.awari_verify.specs.VerifyFault.{reason_of as verify_reason_of};
 ghost use Rattle.awari_verify.specs.declared.verdicts.VerifyFault.TheVariants as verify;
 

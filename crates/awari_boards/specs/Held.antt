@@ -2,10 +2,10 @@
 use Rattle.awari_desk.specs.Answering.{Answering}
 use Rattle.awari_folder.specs.State.{State}
 use Rattle.awari_places.specs.Asked.{Keeps, stands_in}
-use Rattle.awari_unverified.specs.Said.{IsEntrySaid, AreMovesSaid}
-use Rattle.awari_unverified.specs.Unsaid.{line_of, number_of}
-use Rattle.awari_unverified.specs.declared.files.Asked.{Asked}
-use Rattle.awari_unverified.specs.declared.unsaid.Unsaid.{Unsaid}
+use Rattle.awari_boards.specs.Said.{IsEntrySaid, AreMovesSaid}
+use Rattle.awari_boards.specs.Unsaid.{line_of, number_of}
+use Rattle.awari_boards.specs.declared.files.Asked.{Asked}
+use Rattle.awari_boards.specs.declared.unsaid.Unsaid.{Unsaid}
 
 -- how they answer a service
 abbrev pub by_lent : {F : Type 0} → (F → State) → Answering (Asked F) Unsaid

@@ -1,5 +1,5 @@
-use Rattle.awari_unverified.proofs.SaidLaws.{kept_either, served_files}
-use Rattle.awari_unverified.proofs.asking.serve_files.Goals as goal
+use Rattle.awari_boards.proofs.SaidLaws.{kept_either, served_files}
+use Rattle.awari_boards.proofs.asking.serve_files.Goals as goal
 
 pub returns-clause-keeps : goal.returns-clause-keeps
 returns-clause-keeps g c = kept_either g.F.Folder.state c.serve.result _ _ _ _ _ c.serve.ensures.served c.serve.ensures.begun

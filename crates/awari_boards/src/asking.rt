@@ -3,7 +3,7 @@
 ghost use Rattle.std.specs.Prelude.{OnOk};
 ghost use Rattle.awari_streams.specs.Counted.{inner_of};
 ghost use Rattle.awari_places.specs.Asked.{Keeps, stands_in};
-ghost use Rattle.awari_unverified.specs.Said.{IsServedSaid};
+ghost use Rattle.awari_boards.specs.Said.{IsServedSaid};
 
 use crate::files::Asked;
 use awari_desk::{ServeFault, serve};

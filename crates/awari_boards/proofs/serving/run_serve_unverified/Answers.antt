@@ -1,5 +1,5 @@
-use Rattle.awari_unverified.proofs.SaidLaws.{said_before}
-use Rattle.awari_unverified.proofs.serving.run_serve_unverified.Goals as goal
+use Rattle.awari_boards.proofs.SaidLaws.{said_before}
+use Rattle.awari_boards.proofs.serving.run_serve_unverified.Goals as goal
 
 pub returns-in-Ok-served-clause-served : goal.returns-in-Ok-served-clause-served
 returns-in-Ok-served-clause-served g c = λ _. record {

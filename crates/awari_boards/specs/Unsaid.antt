@@ -3,8 +3,8 @@ use Rattle.std.specs.Prelude.{ℕ, List, [], ◌∷◌, ◌++◌, codes}
 use Rattle.std.specs.Fmt.{decimal}
 use Rattle.awari_faults.specs.Refusals.{refusal_text}
 use Rattle.awari_folder.specs.FolderFault.{refusal_of, number_of as folder_number_of}
-use Rattle.awari_unverified.specs.declared.unsaid.Unsaid.{Unsaid}
-use Rattle.awari_unverified.specs.declared.unsaid.Unsaid.TheVariants.{NotYet, Folder}
+use Rattle.awari_boards.specs.declared.unsaid.Unsaid.{Unsaid}
+use Rattle.awari_boards.specs.declared.unsaid.Unsaid.TheVariants.{NotYet, Folder}
 
 -- the line by which a service tells of it
 abbrev pub line_of : Unsaid → List ℕ

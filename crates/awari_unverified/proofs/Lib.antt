@@ -1,2 +1,0 @@
-mod Names
-mod SaidLaws

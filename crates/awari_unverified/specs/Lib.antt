@@ -1,3 +1,0 @@
-pub mod Unsaid
-pub mod Said
-pub mod Held
