@@ -11,7 +11,7 @@ ghost use Rattle.awari_streams.specs.Counted.{AppendsFront};
 
 use crate::asked::NoAnswer;
 use crate::printing::print_line;
-use crate::remarks::{Replies, Unanswered};
+use crate::remarks::{Remarks, Unanswered};
 use arrayvec::ArrayVec;
 use awari_faults::{Field, Fields, Inside, Reason, Refusal, Value};
 use awari_members::{AnswerText, Form, form_of, push_string};
@@ -24,7 +24,7 @@ const REQUEST_ROOM: usize = 200;
 
 /// Writes a refusal, as JSON if `json` says so, and gives the status 1. The request, a command and a word, is
 /// told with JSON alone. The writer holds its line then, or a front of it if the writer refused.
-pub fn refuse_as<W: Replies>(
+pub fn refuse_as<W: Remarks>(
     writer: &mut W,
     json: bool,
     command: &str,
@@ -45,7 +45,7 @@ pub fn refuse_as<W: Replies>(
 
 /// Writes a refusal of a command about a level, or about all, in this form, and gives the status 1. The writer
 /// holds its line then, or a front of it if the writer refused.
-pub fn refuse_level<W: Replies>(
+pub fn refuse_level<W: Remarks>(
     writer: &mut W,
     form: Form,
     command: &str,
@@ -71,7 +71,7 @@ fn word_of(level: Option<u8>) -> TextLine
 
 /// Writes a refusal in this form, and gives the status 1, whether the writer took that or not. What the refusal
 /// means is told as a remark.
-fn refuse_in<W: Replies>(
+fn refuse_in<W: Remarks>(
     writer: &mut W,
     form: Form,
     command: &str,

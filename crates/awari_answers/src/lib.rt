@@ -31,7 +31,7 @@ pub use hints::{refuse_folder, tell_answer};
 pub use json::{refuse_as, refuse_level};
 pub use levels::load_levels;
 pub use printing::{print, print_bytes, print_members, refuse, status_of};
-pub use remarks::{Answers, Replies};
+pub use remarks::{Answers, Remarks};
 pub use streams::Streams;
 pub use telling::{LevelLine, Summary, hex_of, line_of_level};
 pub use watching::load_watched;

@@ -8,7 +8,7 @@ ghost use Rattle.awari_members.specs.Members.{line_text, said};
 ghost use Rattle.awari_members.specs.Forms.{form_of};
 ghost use Rattle.awari_streams.specs.Counted.{AppendsFront};
 
-use crate::remarks::{Explained, Replies};
+use crate::remarks::{Explained, Remarks};
 use arrayvec::ArrayString;
 use awari_faults::Refusal;
 use awari_members::{Line, Member, form_of};
@@ -137,7 +137,7 @@ pub fn status_of(written: bool) -> u8
 
 /// Writes a refusal, and gives the status 1. The writer holds its line then, or a front of it if the writer
 /// refused. What it means is told as a remark.
-pub fn refuse<W: Replies>(writer: &mut W, refusal: Refusal) -> u8
+pub fn refuse<W: Remarks>(writer: &mut W, refusal: Refusal) -> u8
     ensures status { result ≡ 1 }
     ensures told { AppendsFront (W.contents writer.old) (W.contents writer.new) (codes "refused " ++ refusal_text (faults_said refusal) ++ 10 ∷ []) }
 {

@@ -14,20 +14,20 @@ use std::str;
 const REMARK_ROOM: usize = 2048;
 
 /// A writer that answers go to. It may also keep remarks, which are told beside an answer.
-pub trait Replies: Write {
+pub trait Remarks: Write {
     /// Tells a remark, without its last line feed. A writer that keeps none leaves it out.
     fn remark<T: Display>(&mut self, _remark: &T)
         ensures { Self.contents self.new ≡ Self.contents self.old }
     {}
 }
 
-impl<W: Replies> Replies for &mut W {
+impl<W: Remarks> Remarks for &mut W {
     fn remark<T: Display>(&mut self, remark: &T) {
         (**self).remark(remark);
     }
 }
 
-impl Replies for Vec<u8> {}
+impl Remarks for Vec<u8> {}
 
 /// The output of a program. It keeps the remarks, and the last fault that the output gave, until these
 /// are told.
@@ -89,7 +89,7 @@ impl<W: Write> Write for Answers<W> {
     }
 }
 
-impl<W: Write> Replies for Answers<W> {
+impl<W: Write> Remarks for Answers<W> {
     fn remark<T: Display>(&mut self, remark: &T) {
         // There is room for all remarks of a command.
         let _ = writeln!(self.remarks, "{remark}");

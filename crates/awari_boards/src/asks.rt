@@ -11,7 +11,7 @@ ghost use Rattle.awari_boards.specs.Asks.{PrintsEntry, shown_entry};
 ghost use Rattle.awari_boards.specs.Known.{IsKnown};
 
 use crate::opening::{OpenedFor, open_level_of};
-use awari_answers::{Asked, NoAnswer, Replies, ask_folder, print_bytes, refuse_as, status_of};
+use awari_answers::{Asked, NoAnswer, Remarks, ask_folder, print_bytes, refuse_as, status_of};
 use awari_board::Board;
 use awari_folder::Folder;
 use awari_places::entry;
@@ -59,7 +59,7 @@ fn print_entry<W: Write>(board: &Board, entry: Entry, json: bool, writer: &mut W
 /// Prints the entry of a board as the levels in a folder have it, or the refusal; as a line, or as JSON with
 /// the board. Levels are verified, which takes the memory that a load takes. Or files answer that nobody
 /// verified, which takes memory for names alone.
-pub fn run_ask<T: Threads + Sync, F: Folder, W: Replies>(
+pub fn run_ask<T: Threads + Sync, F: Folder, W: Remarks>(
     rt: &T,
     alloc: Global,
     folder: &mut F,

@@ -5,7 +5,7 @@ ghost use Rattle.awari_boards.specs.Plays.{AreCounts, IsCounted, IsNotCounted, I
 
 use crate::memo::Memo;
 use crate::sums::PlayCounts;
-use awari_answers::{NoAnswer, Replies, print, refuse, status_of};
+use awari_answers::{NoAnswer, Remarks, print, refuse, status_of};
 use awari_board::Board;
 use std::alloc::Global;
 
@@ -69,7 +69,7 @@ pub fn plays_from(alloc: Global, text: &[u8], plies: u8) -> Result<PlayCounts, N
 }
 
 /// Prints how many plays of this many plies there are from a board, or the refusal.
-pub fn run_plays<W: Replies>(alloc: Global, board: &str, plies: u8, writer: &mut W) -> u8
+pub fn run_plays<W: Remarks>(alloc: Global, board: &str, plies: u8, writer: &mut W) -> u8
     ensures status { result ≤ 1 }
     ensures counted { result ≡ 0 → PrintsPlays board.now plies (W.contents writer.old) (W.contents writer.new) }
 {

@@ -13,7 +13,7 @@ ghost use Rattle.awari_boards.specs.Lines.{IsLineOf, PrintsLine, PrintsLineBy, S
 use crate::opening::{OpenedFor, open_level_of};
 use crate::plies::run_plies;
 use awari_answers::{
-    Asked, NoAnswer, Replies, ask_folder, print, print_members, refuse_as, status_of,
+    Asked, NoAnswer, Remarks, ask_folder, print, print_members, refuse_as, status_of,
 };
 use awari_folder::Folder;
 use awari_members::Member;
@@ -191,7 +191,7 @@ fn print_longest<W: Write>(found: &LongestLine, query: LineQuery<'_>, writer: &m
 /// Prints the value of a board and the line of play from it, or the refusal: by the plans of both sides, or
 /// with one that holds out, or ply by ply; as lines or as JSON. Who answers is as for `run_ask`. It also
 /// takes memory for the moves.
-pub fn run_line<T: Threads + Sync, F: Folder, W: Replies>(
+pub fn run_line<T: Threads + Sync, F: Folder, W: Remarks>(
     rt: &T,
     alloc: Global,
     folder: &mut F,
@@ -210,7 +210,7 @@ pub fn run_line<T: Threads + Sync, F: Folder, W: Replies>(
 }
 
 /// Prints the line by the plans of both sides, or the refusal.
-fn run_best<T: Threads + Sync, F: Folder, W: Replies>(
+fn run_best<T: Threads + Sync, F: Folder, W: Remarks>(
     rt: &T,
     alloc: Global,
     folder: &mut F,
@@ -228,7 +228,7 @@ fn run_best<T: Threads + Sync, F: Folder, W: Replies>(
 }
 
 /// Prints the line in which one side holds out, or the refusal.
-fn run_longest<T: Threads + Sync, F: Folder, W: Replies>(
+fn run_longest<T: Threads + Sync, F: Folder, W: Remarks>(
     rt: &T,
     alloc: Global,
     folder: &mut F,

@@ -4,7 +4,7 @@ ghost use Rattle.std.specs.Prelude.{◌≡◌, ◌≤◌, IfOk, IfErr};
 ghost use Rattle.awari_boards.specs.Places.{IsBoardAt, IsNoBoard, IsNoPlace, IsPlaceOf, PrintsBoard, PrintsPlace};
 ghost use Rattle.awari_answers.specs.declared.asked.NoAnswer.TheVariants as no_answer;
 
-use awari_answers::{NoAnswer, Replies, print, refuse, status_of};
+use awari_answers::{NoAnswer, Remarks, print, refuse, status_of};
 use awari_board::Board;
 use awari_rank::{rank, size, unrank};
 use awari_table::{HIGHEST_LEVEL, NotYet};
@@ -76,7 +76,7 @@ fn above_highest() -> NoAnswer
 }
 
 /// Prints the place of a board, or the refusal.
-pub fn run_rank<W: Replies>(board: &str, writer: &mut W) -> u8
+pub fn run_rank<W: Remarks>(board: &str, writer: &mut W) -> u8
     ensures status { result ≤ 1 }
     ensures placed { result ≡ 0 → PrintsPlace board.now (W.contents writer.old) (W.contents writer.new) }
 {
@@ -87,7 +87,7 @@ pub fn run_rank<W: Replies>(board: &str, writer: &mut W) -> u8
 }
 
 /// Prints the board of a place, or the refusal.
-pub fn run_board<W: Replies>(level: u8, rank: u32, writer: &mut W) -> u8
+pub fn run_board<W: Remarks>(level: u8, rank: u32, writer: &mut W) -> u8
     ensures status { result ≤ 1 }
     ensures found { result ≡ 0 → PrintsBoard level rank (W.contents writer.old) (W.contents writer.new) }
 {

@@ -12,7 +12,7 @@ ghost use Rattle.awari_boards.specs.Lines.{PrintsLineBy};
 ghost use Rattle.awari_boards.specs.Plies.{shown_line, shown_plies, shown_ply, shown_repeat};
 
 use crate::opening::{OpenedFor, open_level_of};
-use awari_answers::{Asked, NoAnswer, Replies, ask_folder, print_members, refuse_as, status_of};
+use awari_answers::{Asked, NoAnswer, Remarks, ask_folder, print_members, refuse_as, status_of};
 use awari_folder::Folder;
 use awari_members::Member;
 use awari_play::{LinePlies, Ply, Repeat, line_plies};
@@ -97,7 +97,7 @@ fn print_line<W: Write>(found: &LinePlies, json: bool, writer: &mut W) -> bool
 
 /// Prints a line or a JSON object for each ply of the line of play from a board, or the refusal. If the
 /// board's value is 0, it ends where a board comes again, and says so.
-pub(crate) fn run_plies<T: Threads + Sync, F: Folder, W: Replies>(
+pub(crate) fn run_plies<T: Threads + Sync, F: Folder, W: Remarks>(
     rt: &T,
     alloc: Global,
     folder: &mut F,

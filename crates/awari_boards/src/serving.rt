@@ -7,7 +7,7 @@ ghost use Rattle.awari_boards.specs.Said.{IsServedSaid, PrintsServiceSaid};
 
 use crate::asking::serve_files;
 use crate::files::Asked;
-use awari_answers::{Replies, Streams, refuse};
+use awari_answers::{Remarks, Streams, refuse};
 use awari_desk::ServeFault;
 use awari_faults::Refusal;
 use awari_folder::Folder;
@@ -24,7 +24,7 @@ use std::io::{Read, Write};
 /// A file that can't be read any more is told in the place of an answer, and the service goes on. A refusal
 /// of the files at the beginning, or of the streams, is printed after the answers, unless these could not
 /// be written.
-pub fn run_serve_unverified<F: Folder, R: Read, W: Replies, E>(
+pub fn run_serve_unverified<F: Folder, R: Read, W: Remarks, E>(
     folder: &mut F,
     streams: &mut Streams<R, W, E>,
 ) -> u8

@@ -11,7 +11,7 @@ ghost use Rattle.awari_boards.specs.Known.{IsKnown};
 ghost use Rattle.awari_boards.specs.Worths.{PrintsWorths, shown_worths};
 
 use crate::opening::{OpenedFor, open_level_of};
-use awari_answers::{Asked, NoAnswer, Replies, ask_folder, print_bytes, refuse_as, status_of};
+use awari_answers::{Asked, NoAnswer, Remarks, ask_folder, print_bytes, refuse_as, status_of};
 use awari_board::Board;
 use awari_folder::Folder;
 use awari_play::{Weighed, weigh};
@@ -58,7 +58,7 @@ fn print_worths<W: Write>(board: &Board, weighed: &Weighed, json: bool, writer: 
 /// Prints what each legal move of a board is worth, with its replies if these are asked for; or that the
 /// play has ended there, or the refusal. It is a line for each move, or JSON in one line. Who answers, and
 /// what memory that takes, is as for `run_ask`.
-pub fn run_moves<T: Threads + Sync, F: Folder, W: Replies>(
+pub fn run_moves<T: Threads + Sync, F: Folder, W: Remarks>(
     rt: &T,
     alloc: Global,
     folder: &mut F,

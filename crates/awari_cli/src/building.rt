@@ -13,7 +13,7 @@ use crate::beside::{Beside, BuildProgress, SaveHeard, SaveTold, Saving, saving_b
 use crate::estimates::{Bytes, Estimate};
 use crate::faults::CommandFault;
 use crate::ways::{Way, build_by};
-use awari_answers::{LevelLine, Replies, line_of_level, print, refuse, status_of};
+use awari_answers::{LevelLine, Remarks, line_of_level, print, refuse, status_of};
 use awari_build::BuildFault;
 use awari_folder::{Folder, FolderFault, Stored, Together, load, save_or_keep};
 use awari_heard::Progress;
@@ -63,7 +63,7 @@ struct Built {
 pub fn run_build<
     T: Threads + Clock + Wait + Sync + Send + Clone + Drop + 'static,
     P: Progress,
-    W: Replies,
+    W: Remarks,
 >(builder: &mut Builder<'_, T, P>, top: u8, writer: &mut W) -> u8
     ensures status { result ≤ 1 }
     ensures built { result ≡ 0 → PrintsAllLevels top (W.contents writer.old) (W.contents writer.new) }
@@ -78,7 +78,7 @@ pub fn run_build_in<
     T: Threads + Clock + Wait + Sync + Send + Clone + Drop + 'static,
     P: BuildProgress + Send,
     F: Folder,
-    W: Replies,
+    W: Remarks,
 >(builder: &mut Builder<'_, T, P>, folder: &mut F, top: u8, writer: &mut W) -> u8
     ensures status { result ≤ 1 }
     ensures built { result ≡ 0
@@ -100,7 +100,7 @@ pub fn run_build_in<
 fn build_up<
     T: Threads + Clock + Wait + Sync + Send + Clone + Drop + 'static,
     P: Progress,
-    W: Replies,
+    W: Remarks,
 >(builder: &mut Builder<'_, T, P>, top: u8, shelf: &mut Shelf, writer: &mut W) -> u8
     ensures status { result ≤ 1 }
     ensures built { result ≡ 0 → BuildsTo top shelf.old shelf.new (W.contents writer.old) (W.contents writer.new) }
@@ -125,7 +125,7 @@ pub(crate) fn build_up_in<
     T: Threads + Clock + Wait + Sync + Send + Clone + Drop + 'static,
     P: BuildProgress + Send,
     F: Folder,
-    W: Replies,
+    W: Remarks,
 >(
     builder: &mut Builder<'_, T, P>,
     folder: &mut F,
@@ -157,7 +157,7 @@ pub(crate) fn build_up_in<
 
 /// Writes the refusal of the level of this number, and gives the status 1. If memory ran out, it is told how
 /// much the level takes.
-fn refuse_level<W: Replies>(writer: &mut W, level: u8, fault: CommandFault) -> u8
+fn refuse_level<W: Remarks>(writer: &mut W, level: u8, fault: CommandFault) -> u8
     ensures { result ≡ 1 }
 {
     let status = refuse(writer, fault.refusal());
@@ -198,7 +198,7 @@ fn save_and_build<
     T: Threads + Clock + Wait + Sync + Send + Clone + Drop + 'static,
     P: BuildProgress + Send,
     F: Folder,
-    W: Replies,
+    W: Remarks,
 >(builder: &mut Builder<'_, T, P>, folder: &mut F, stored: &mut Stored, writer: &mut W) -> bool
     requires { 0 < length stored.old.shelf }
     ensures saved { result ≡ true → SavesTop stored.old.shelf stored.old.digest stored.new.digest (F.state folder.old) (F.state folder.new) (W.contents writer.old) (W.contents writer.new) }
@@ -241,7 +241,7 @@ fn saved_and_built<
     T: Threads + Clock + Wait + Sync + Send + Clone + Drop + 'static,
     P: BuildProgress + Send,
     F: Folder,
-    W: Replies,
+    W: Remarks,
 >(
     tools: &Tools<'_, T>,
     progress: &mut P,
@@ -289,7 +289,7 @@ fn saved_then_built<
     T: Threads + Clock + Wait + Sync + Send + Clone + Drop + 'static,
     P: BuildProgress,
     F: Folder,
-    W: Replies,
+    W: Remarks,
 >(
     tools: &Tools<'_, T>,
     progress: &mut P,
@@ -308,7 +308,7 @@ fn saved_then_built<
 }
 
 /// Saves the level on top of the shelf. True if that was done; if not, the refusal is printed.
-fn save_last<F: Folder, W: Replies>(folder: &mut F, stored: &mut Stored, writer: &mut W) -> bool
+fn save_last<F: Folder, W: Remarks>(folder: &mut F, stored: &mut Stored, writer: &mut W) -> bool
     requires { 0 < length stored.old.shelf }
     ensures saved { result ≡ true → SavesTop stored.old.shelf stored.old.digest stored.new.digest (F.state folder.old) (F.state folder.new) (W.contents writer.old) (W.contents writer.new) }
     ensures shelf { stored.new.shelf ≡ stored.old.shelf }
@@ -326,7 +326,7 @@ fn save_last<F: Folder, W: Replies>(folder: &mut F, stored: &mut Stored, writer:
 /// Saves the level on top of the shelf unless its file is there, and prints its line. It gives the digest of the
 /// file, or nothing if that is refused, which is printed, or if the line is not written. Then no further
 /// level is wanted.
-fn save_or_refuse<F: Folder, W: Replies>(
+fn save_or_refuse<F: Folder, W: Remarks>(
     saving: &mut Saving,
     folder: &mut F,
     stored: &Stored,
@@ -356,7 +356,7 @@ fn save_or_refuse<F: Folder, W: Replies>(
 /// Saves the level unless its file is there, and prints its line. It gives the digest of the file, or nothing
 /// if the line is not written. Nothing is refused once the file is saved, so a level that is saved is
 /// always told.
-fn save_and_tell<F: Folder, W: Replies>(
+fn save_and_tell<F: Folder, W: Remarks>(
     saving: &mut Saving,
     folder: &mut F,
     level: &Level,

@@ -12,7 +12,7 @@
 //!         folder: &mut MemoryFolder,
 //!         top: u8,
 //!         progress: &mut (impl BuildProgress + Send),
-//!         output: &mut impl Replies,
+//!         output: &mut impl Remarks,
 //!     ) -> u8 {
 //!         let mut builder = Builder {
 //!             rt,
@@ -38,7 +38,7 @@ mod serving;
 mod ways;
 mod writing;
 
-pub use awari_answers::{Answers, NoAnswer, Replies, Streams};
+pub use awari_answers::{Answers, NoAnswer, Remarks, Streams};
 pub use awari_boards::{Judgement, Played, judge, play_on, run_ask, run_line, run_moves};
 pub use awari_check::{CheckFault, check};
 pub use awari_host::{Disk, Host, Machine, Purpose};

@@ -6,7 +6,7 @@ ghost use Rattle.awari_folder.specs.State.{Unchanged};
 ghost use Rattle.awari_folder.specs.Contents.{KeepsFiles};
 ghost use Rattle.awari_cli.specs.Migrating.{LeavesMigrated, PrintsMigrated, migrated_lines};
 
-use awari_answers::{Replies, Summary, print, refuse, status_of};
+use awari_answers::{Remarks, Summary, print, refuse, status_of};
 use awari_folder::Folder;
 use awari_migrate::{Limits, migrate};
 use std::alloc::Global;
@@ -34,7 +34,7 @@ impl fmt::Display for MigratedLevel {
 
 /// Brings the levels of one folder over into another, and prints a line for each and one for all. A
 /// refusal is printed alone, and the files that were written before it stay.
-pub fn run_migrate<F: Folder, G: Folder, W: Replies>(
+pub fn run_migrate<F: Folder, G: Folder, W: Remarks>(
     alloc: Global,
     from: &mut F,
     to: &mut G,

@@ -6,7 +6,7 @@ ghost use Rattle.awari_host.specs.Hosts.{AllStay};
 ghost use Rattle.awari_folder.specs.Contents.{Same};
 
 use crate::serving::run_serve;
-use awari_answers::{Replies, Streams, print};
+use awari_answers::{Remarks, Streams, print};
 use awari_boards::{run_ask, run_line, run_moves, run_serve_unverified};
 use awari_folder::Folder;
 use awari_host::{Host, Purpose};
@@ -32,7 +32,7 @@ pub(crate) fn run_reading<
     T: Threads + Clock + Wait + Sync + Send + Clone + Drop + 'static,
     H: Host<'a>,
     R: Read,
-    W: Replies,
+    W: Remarks,
     E: Write,
 >(rt: &T, alloc: Global, host: &mut H, reading: Reading<'a>, streams: &mut Streams<R, W, E>) -> u8
     ensures status { result ≤ 1 }
@@ -59,7 +59,7 @@ fn run_question<
     T: Threads + Clock + Wait + Sync + Send + Clone + Drop + 'static,
     F: Folder,
     R: Read,
-    W: Replies,
+    W: Remarks,
     E: Write,
 >(
     rt: &T,
@@ -91,7 +91,7 @@ fn run_question<
 }
 
 /// Prints levels in numbers, or a level by two columns.
-fn run_numbers<T: Threads + Sync, F: Folder, W: Replies>(
+fn run_numbers<T: Threads + Sync, F: Folder, W: Remarks>(
     rt: &T,
     alloc: Global,
     folder: &mut F,

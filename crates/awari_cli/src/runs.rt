@@ -15,7 +15,7 @@ ghost use Rattle.clap.specs.Simple.{subcommand_of, subcommand_rows_of};
 
 use crate::reading::{Reading, run_reading};
 use crate::writing::{Migration, run_build_asked, run_estimate, run_migration};
-use awari_answers::{Replies, Streams, print, refuse, status_of, tell_answer};
+use awari_answers::{Remarks, Streams, print, refuse, status_of, tell_answer};
 use awari_boards::{Played, judge, play_on, run_board, run_plays, run_rank};
 use awari_check::check_input;
 use awari_host::Host;
@@ -50,7 +50,7 @@ pub fn run<
     H: Host<'a>,
     S: AsStr,
     R: Read,
-    W: Replies,
+    W: Remarks,
     E: Write + Send,
 >(rt: &T, alloc: Global, host: &mut H, words: &'a [S], streams: &mut Streams<R, W, E>) -> u8
     ensures status { result ≤ 2 }
@@ -84,7 +84,7 @@ fn run_understood<
     T: Threads + Clock + Wait + Sync + Send + Clone + Drop + 'static,
     H: Host<'a>,
     R: Read,
-    W: Replies,
+    W: Remarks,
     E: Write + Send,
 >(
     rt: &T,
@@ -117,7 +117,7 @@ fn run_request<
     T: Threads + Clock + Wait + Sync + Send + Clone + Drop + 'static,
     H: Host<'a>,
     R: Read,
-    W: Replies,
+    W: Remarks,
     E: Write + Send,
 >(
     rt: &T,
@@ -180,7 +180,7 @@ fn run_check<R: Read, W: Write, E: Write>(
 }
 
 /// Prints the board after a move.
-fn run_move<W: Replies>(board: &str, pit: u8, writer: &mut W) -> u8
+fn run_move<W: Remarks>(board: &str, pit: u8, writer: &mut W) -> u8
     ensures status { result ≤ 1 }
     ensures played { result ≡ 0 → PrintsMove board.now pit (W.contents writer.old) (W.contents writer.new) }
 {
@@ -191,7 +191,7 @@ fn run_move<W: Replies>(board: &str, pit: u8, writer: &mut W) -> u8
 }
 
 /// Prints where a play stands.
-fn run_judge<W: Replies>(board: &str, limit: u32, moves: &[&str], writer: &mut W) -> u8
+fn run_judge<W: Remarks>(board: &str, limit: u32, moves: &[&str], writer: &mut W) -> u8
     ensures status { result ≤ 1 }
     ensures judged { result ≡ 0 → PrintsJudgement board.now limit (bytes_of moves.now) (W.contents writer.old) (W.contents writer.new) }
 {

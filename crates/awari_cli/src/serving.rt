@@ -12,7 +12,7 @@ ghost use Rattle.awari_cli.specs.declared.faults.CommandFault.{CommandFault as A
 use crate::faults::CommandFault;
 use crate::lasting::{WhileServed, lasting_service};
 use crate::ways::{Way, build_by};
-use awari_answers::{Replies, Streams, refuse};
+use awari_answers::{Remarks, Streams, refuse};
 use awari_build::{BuildFault, Pace};
 use awari_desk::{DeskFault, Publisher, Reader, ServeFault, desk, serve};
 use awari_folder::{Folder, Together, load};
@@ -56,7 +56,7 @@ pub fn run_serve<
     T: Threads + Clock + Wait + Sync + Send + Clone + Drop + 'static,
     F: Folder,
     R: Read,
-    W: Replies,
+    W: Remarks,
     E: Write,
 >(rt: &T, alloc: Global, folder: &mut F, query: ServeQuery, streams: &mut Streams<R, W, E>) -> u8
     ensures status { result ≤ 1 }

@@ -12,7 +12,7 @@ use crate::estimates::{Estimate, warn_of_memory};
 use crate::migrating::run_migrate;
 use crate::progress::{HowTold, ProgressLines};
 use crate::ways::Way;
-use awari_answers::{Replies, Streams, load_watched, print, refuse};
+use awari_answers::{Remarks, Streams, load_watched, print, refuse};
 use awari_folder::{Folder, FolderFault};
 use awari_heard::Silent;
 use awari_host::{Host, Purpose};
@@ -55,7 +55,7 @@ pub(crate) fn run_build_asked<
     T: Threads + Clock + Wait + Sync + Send + Clone + Drop + 'static,
     H: Host<'a>,
     R: Read,
-    W: Replies,
+    W: Remarks,
     E: Write + Send,
 >(rt: &T, alloc: Global, host: &mut H, query: BuildQuery<'a>, streams: &mut Streams<R, W, E>) -> u8
     ensures status { result ≤ 1 }
@@ -79,7 +79,7 @@ pub(crate) fn run_build_asked<
 fn run_build_alone<
     T: Threads + Clock + Wait + Sync + Send + Clone + Drop + 'static,
     R: Read,
-    W: Replies,
+    W: Remarks,
     E: Write,
 >(rt: &T, alloc: Global, build: Build<'_>, streams: &mut Streams<R, W, E>) -> u8
     ensures status { result ≤ 1 }
@@ -119,7 +119,7 @@ fn run_build_on<
     T: Threads + Clock + Wait + Sync + Send + Clone + Drop + 'static,
     H: Host<'a>,
     R: Read,
-    W: Replies,
+    W: Remarks,
     E: Write + Send,
 >(rt: &T, alloc: Global, host: &mut H, asked: BuildIn<'a>, streams: &mut Streams<R, W, E>) -> u8
     ensures status { result ≤ 1 }
@@ -153,7 +153,7 @@ fn run_build_of<
     T: Threads + Clock + Wait + Sync + Send + Clone + Drop + 'static,
     F: Folder,
     R: Read,
-    W: Replies,
+    W: Remarks,
     E: Write + Send,
 >(rt: &T, alloc: Global, folder: &mut F, build: Build<'_>, streams: &mut Streams<R, W, E>) -> u8
     ensures status { result ≤ 1 }
@@ -213,7 +213,7 @@ fn tell_unused_threads<E: Write>(query: BuildQuery<'_>, errors: &mut E) {
 
 /// Tells `errors` what a build would take, and builds nothing. It is refused as 82 if the folder in which it
 /// would build is not there.
-pub(crate) fn run_estimate<'a, H: Host<'a>, W: Replies, E: Write>(
+pub(crate) fn run_estimate<'a, H: Host<'a>, W: Remarks, E: Write>(
     host: &mut H,
     query: BuildQuery<'a>,
     output: &mut W,
@@ -294,7 +294,7 @@ pub(crate) struct Migration<'a> {
 }
 
 /// Brings the levels of one folder over into the other.
-pub(crate) fn run_migration<'a, H: Host<'a>, R: Read, W: Replies, E: Write>(
+pub(crate) fn run_migration<'a, H: Host<'a>, R: Read, W: Remarks, E: Write>(
     alloc: Global,
     host: &mut H,
     migration: Migration<'a>,

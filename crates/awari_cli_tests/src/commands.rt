@@ -3,7 +3,7 @@
 use crate::expect::expect_equal;
 use crate::plain::run_on_disk;
 use awari_board::Board;
-use awari_cli::{Replies, Streams, check};
+use awari_cli::{Remarks, Streams, check};
 use awari_table::Shelf;
 use std::alloc::Global;
 use std::fs::File;
@@ -36,7 +36,7 @@ impl Write for Broken {
     }
 }
 
-impl Replies for Broken {}
+impl Remarks for Broken {}
 
 /// A stream that takes every byte, and can't pass them on.
 #[derive(Clone, Copy)]
@@ -52,7 +52,7 @@ impl Write for Stuck {
     }
 }
 
-impl Replies for Stuck {}
+impl Remarks for Stuck {}
 
 /// The status of `check`, of what this reader gives to this writer.
 fn check_status(
@@ -68,7 +68,7 @@ fn check_status(
         + 'static),
     alloc: Global,
     reader: &mut impl Read,
-    writer: &mut impl Replies,
+    writer: &mut impl Remarks,
 ) -> u8 {
     let words = ["awari", "check"];
     let mut streams = Streams {

@@ -5,7 +5,7 @@
 use awari_boards::run_serve_unverified;
 use awari_build::Pace;
 use awari_cli::{
-    AskQuery, BuildProgress, Builder, Disk, HowTold, LineQuery, MovesQuery, ProgressLines, Replies,
+    AskQuery, BuildProgress, Builder, Disk, HowTold, LineQuery, MovesQuery, ProgressLines, Remarks,
     ServeQuery, Streams, VerifyQuery, Way, run, run_ask, run_build_in, run_line, run_moves,
     run_serve, run_text, run_verify,
 };
@@ -53,7 +53,7 @@ pub(crate) fn has_draft(folder: &MemoryFolder) -> bool {
 pub(crate) fn build(
     rt: &(impl AllocGlobal + Threads + Clock + Wait + Sync + Send + Clone + Drop + 'static),
     folder: &mut MemoryFolder,
-    output: &mut impl Replies,
+    output: &mut impl Remarks,
 ) -> u8 {
     build_to(rt, folder, 1, &mut Silent, output)
 }
@@ -64,7 +64,7 @@ fn build_to(
     folder: &mut MemoryFolder,
     top: u8,
     progress: &mut (impl BuildProgress + Send),
-    output: &mut impl Replies,
+    output: &mut impl Remarks,
 ) -> u8 {
     let mut builder = Builder {
         rt,
@@ -81,7 +81,7 @@ pub(crate) fn build_by(
     threads: usize,
     folder: &mut MemoryFolder,
     progress: &mut (impl BuildProgress + Send),
-    output: &mut impl Replies,
+    output: &mut impl Remarks,
 ) -> u8 {
     let mut builder = Builder {
         rt,
@@ -109,7 +109,7 @@ pub(crate) fn build_telling(
 pub(crate) fn verified(
     rt: &(impl AllocGlobal + Threads + Clock + Wait + Sync + Send + Clone + Drop + 'static),
     folder: &mut MemoryFolder,
-    output: &mut impl Replies,
+    output: &mut impl Remarks,
 ) -> u8 {
     let query = VerifyQuery {
         levels: None,
@@ -124,7 +124,7 @@ pub(crate) fn verified_as(
     rt: &(impl AllocGlobal + Threads + Clock + Wait + Sync + Send + Clone + Drop + 'static),
     folder: &mut MemoryFolder,
     query: VerifyQuery<'_>,
-    output: &mut impl Replies,
+    output: &mut impl Remarks,
     errors: &mut impl Write,
 ) -> u8 {
     let mut streams = Streams {
@@ -155,7 +155,7 @@ pub(crate) fn lined(
     rt: &(impl AllocGlobal + Threads + Clock + Wait + Sync + Send + Clone + Drop + 'static),
     folder: &mut MemoryFolder,
     board: &str,
-    output: &mut impl Replies,
+    output: &mut impl Remarks,
 ) -> u8 {
     let query = LineQuery {
         board,
@@ -172,7 +172,7 @@ pub(crate) fn weighed(
     rt: &(impl AllocGlobal + Threads + Clock + Wait + Sync + Send + Clone + Drop + 'static),
     folder: &mut MemoryFolder,
     board: &str,
-    output: &mut impl Replies,
+    output: &mut impl Remarks,
 ) -> u8 {
     let query = MovesQuery {
         board,
@@ -187,7 +187,7 @@ pub(crate) fn weighed(
 pub(crate) fn texted(
     rt: &(impl AllocGlobal + Threads + Clock + Wait + Sync + Send + Clone + Drop + 'static),
     folder: &mut MemoryFolder,
-    output: &mut impl Replies,
+    output: &mut impl Remarks,
 ) -> u8 {
     run_text(rt, rt.alloc(), folder, None, output)
 }
@@ -196,7 +196,7 @@ pub(crate) fn texted(
 pub(crate) fn listed(
     rt: &(impl AllocGlobal + Threads + Clock + Wait + Sync + Send + Clone + Drop + 'static),
     folder: &mut MemoryFolder,
-    output: &mut impl Replies,
+    output: &mut impl Remarks,
 ) -> u8 {
     let query = BoardsQuery {
         level: 1,
@@ -224,7 +224,7 @@ pub(crate) fn listed(
 pub(crate) fn all_listed(
     rt: &(impl AllocGlobal + Threads + Clock + Wait + Sync + Send + Clone + Drop + 'static),
     folder: &mut MemoryFolder,
-    output: &mut impl Replies,
+    output: &mut impl Remarks,
 ) -> u8 {
     run_all_boards(rt, rt.alloc(), folder, None, output)
 }
@@ -235,7 +235,7 @@ pub(crate) fn served(
     folder: &mut MemoryFolder,
     (top, owners): (u8, u8),
     input: &mut impl Read,
-    output: &mut impl Replies,
+    output: &mut impl Remarks,
 ) -> u8 {
     let mut streams = Streams {
         input,
@@ -251,7 +251,7 @@ pub(crate) fn served(
 }
 
 /// Serves a folder by what its files say, and gives the status.
-pub(crate) fn served_said<F: Folder, R: Read, W: Replies, E>(
+pub(crate) fn served_said<F: Folder, R: Read, W: Remarks, E>(
     folder: &mut F,
     streams: &mut Streams<R, W, E>,
 ) -> u8 {
@@ -271,7 +271,7 @@ pub(crate) fn run_on_disk<'a>(
         + 'static),
     alloc: Global,
     words: &'a [&'a str],
-    streams: &mut Streams<impl Read, impl Replies, impl Write + Send>,
+    streams: &mut Streams<impl Read, impl Remarks, impl Write + Send>,
 ) -> u8 {
     run(rt, alloc, &mut Disk::new(rt, alloc), words, streams)
 }

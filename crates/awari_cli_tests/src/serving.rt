@@ -5,7 +5,7 @@ use crate::expect::expect_equal;
 use crate::plain::{
     all_listed, build, lined, listed, memory_folder, served, texted, verified, weighed,
 };
-use awari_cli::Replies;
+use awari_cli::Remarks;
 use awari_file_tests::MemoryFolder;
 use std::alloc::Global;
 use std::cell::Cell;
@@ -66,7 +66,7 @@ impl Write for Watching<'_> {
     }
 }
 
-impl Replies for Watching<'_> {}
+impl Remarks for Watching<'_> {}
 
 /// Serves an empty folder until the board is answered, while levels up to this one are built by so
 /// many owners.
@@ -187,7 +187,7 @@ fn nothing_is_printed_after_a_write_that_failed(rt: HostRuntime) {
     expect_equal(&rt, "status and writes", (status, output.writes), (1, 1));
 }
 
-impl Replies for Full {}
+impl Remarks for Full {}
 
 /// Counts the writes of bytes, and the flushes that pass them on.
 #[derive(Drop)]
@@ -215,7 +215,7 @@ impl Write for Passing {
     }
 }
 
-impl Replies for Passing {}
+impl Remarks for Passing {}
 
 impl Passing {
     /// A stream to which nothing came yet.

@@ -15,7 +15,7 @@ ghost use Rattle.awari_levels.specs.Boards.{AppendsWanted, IsRefused, IsWanted, 
 use crate::asked::Asked;
 use crate::listing::{count_boards, print_boards};
 use crate::wanted::{Wanted, is_alone};
-use awari_answers::{NoAnswer, Replies, load_levels, print, refuse, refuse_level, status_of};
+use awari_answers::{NoAnswer, Remarks, load_levels, print, refuse, refuse_level, status_of};
 use awari_facts::{Levels, Source, load_to, open_to};
 use awari_folder::{Folder, FolderFault};
 use awari_members::{Form, form_of};
@@ -104,7 +104,7 @@ fn print_wanted<R: Threads + Sync, F: Folder, W: Write>(
 }
 
 /// Prints the same, or the refusal, and gives the status. Conditions as for [`print_wanted`].
-fn run_asked<R: Threads + Sync, F: Folder, W: Replies>(
+fn run_asked<R: Threads + Sync, F: Folder, W: Remarks>(
     rt: &R,
     alloc: Global,
     folder: &mut F,
@@ -134,7 +134,7 @@ fn run_asked<R: Threads + Sync, F: Folder, W: Replies>(
 }
 
 /// Prints the refusal of a query, and gives the status 1.
-fn refuse_boards<W: Replies>(writer: &mut W, query: &BoardsQuery<'_>, fault: NoAnswer) -> u8
+fn refuse_boards<W: Remarks>(writer: &mut W, query: &BoardsQuery<'_>, fault: NoAnswer) -> u8
     ensures { result ≡ 1 }
 {
     let form = form_of(query.json, query.csv);
@@ -152,7 +152,7 @@ struct Wish<'a> {
 /// refusal, in the form of the lines. It takes memory for the levels, for boards that threads look at, and for
 /// those that are sorted. If it asks for files that nobody verified, it takes none for levels, unless something
 /// is wanted that other boards say.
-pub fn run_boards<T: Threads + Sync, F: Folder, W: Replies>(
+pub fn run_boards<T: Threads + Sync, F: Folder, W: Remarks>(
     rt: &T,
     alloc: Global,
     folder: &mut F,
@@ -185,7 +185,7 @@ pub fn run_boards<T: Threads + Sync, F: Folder, W: Replies>(
 }
 
 /// Prints the same by what the files say.
-fn run_boards_said<T: Threads + Sync, F: Folder, W: Replies>(
+fn run_boards_said<T: Threads + Sync, F: Folder, W: Remarks>(
     rt: &T,
     alloc: Global,
     folder: &mut F,
@@ -261,7 +261,7 @@ fn print_levels<R: Threads + Sync, F: Folder, W: Write>(
 }
 
 /// Prints all boards of the level of this number, or of all levels in a folder, or the refusal.
-pub fn run_all_boards<T: Threads + Sync, F: Folder, W: Replies>(
+pub fn run_all_boards<T: Threads + Sync, F: Folder, W: Remarks>(
     rt: &T,
     alloc: Global,
     folder: &mut F,

@@ -18,7 +18,7 @@ ghost use Rattle.awari_levels.specs.Tallies.{IsTallyOf};
 use crate::rows::{Row, print_row};
 use crate::shown::{print_level, print_names, print_top};
 use crate::tallies::{Tally, tally_level};
-use awari_answers::{LevelLine, NoAnswer, Replies, load_levels, refuse_level, status_of};
+use awari_answers::{LevelLine, NoAnswer, Remarks, load_levels, refuse_level, status_of};
 use awari_facts::{Levels, Source, count_levels, load_to, open_all, open_to, read_limit};
 use awari_folder::{Folder, FolderFault};
 use awari_members::{Form, form_of};
@@ -153,7 +153,7 @@ fn print_counts<F: Folder, W: Write>(
 }
 
 /// Prints the refusal, in the form of the lines, and gives the status 1.
-fn refuse_counts<W: Replies>(writer: &mut W, query: CountsQuery<'_>, fault: NoAnswer) -> u8
+fn refuse_counts<W: Remarks>(writer: &mut W, query: CountsQuery<'_>, fault: NoAnswer) -> u8
     ensures { result ≡ 1 }
 {
     let form = form_of(query.json, query.csv);
@@ -182,7 +182,7 @@ fn load_for<T: Threads + Sync, F: Folder>(
 /// Prints the line of each level in a folder, or the lines of the one of this number, or the refusal, all in one
 /// form. It takes memory for the levels, if they are to be verified, and
 /// four bytes for each distance.
-pub fn run_counts<T: Threads + Sync, F: Folder, W: Replies>(
+pub fn run_counts<T: Threads + Sync, F: Folder, W: Remarks>(
     rt: &T,
     alloc: Global,
     folder: &mut F,
@@ -210,7 +210,7 @@ pub fn run_counts<T: Threads + Sync, F: Folder, W: Replies>(
 }
 
 /// Prints the same by what the files say.
-fn run_counts_said<F: Folder, W: Replies>(
+fn run_counts_said<F: Folder, W: Remarks>(
     alloc: Global,
     folder: &mut F,
     query: CountsQuery<'_>,

@@ -18,7 +18,7 @@ use crate::ranges::width_of;
 use crate::rows::{Placed, Row, print_row};
 use crate::shown::Names;
 use crate::tables::{Table, count_own, wrong_limit};
-use awari_answers::{NoAnswer, Replies, print, refuse_level, status_of};
+use awari_answers::{NoAnswer, Remarks, print, refuse_level, status_of};
 use awari_facts::{Levels, is_own, levels_in, limit_on, load_to, open_to};
 use awari_folder::{Folder, FolderFault};
 use awari_members::{Form, form_of};
@@ -175,7 +175,7 @@ fn wish_of(query: &CountsQuery<'_>) -> Result<Wish, NoAnswer>
 /// for, or if the word names no two columns. It takes memory for four bytes a pair of numbers, and for the
 /// levels, if they are to be verified or a column is of the moves that keep the value. Other files that nobody
 /// verified are read board by board.
-pub fn run_pairs<T: Threads + Sync, F: Folder, W: Replies>(
+pub fn run_pairs<T: Threads + Sync, F: Folder, W: Remarks>(
     rt: &T,
     alloc: Global,
     folder: &mut F,
@@ -207,7 +207,7 @@ pub fn run_pairs<T: Threads + Sync, F: Folder, W: Replies>(
 }
 
 /// Prints the refusal, and gives the status 1.
-fn refuse_pairs<W: Replies>(writer: &mut W, wish: Wish, fault: NoAnswer) -> u8
+fn refuse_pairs<W: Remarks>(writer: &mut W, wish: Wish, fault: NoAnswer) -> u8
     ensures { result ≡ 1 }
 {
     refuse_level(writer, wish.form, "counts", Some(wish.level), fault)
@@ -221,7 +221,7 @@ fn are_own(pair: Pair) -> bool
 }
 
 /// Prints the same by what the files say.
-fn run_pairs_said<T: Threads + Sync, F: Folder, W: Replies>(
+fn run_pairs_said<T: Threads + Sync, F: Folder, W: Remarks>(
     rt: &T,
     alloc: Global,
     folder: &mut F,

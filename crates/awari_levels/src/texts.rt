@@ -5,7 +5,7 @@ ghost use Rattle.awari_streams.specs.Counted.{inner_of};
 ghost use Rattle.awari_folder.specs.Contents.{Same};
 ghost use Rattle.awari_levels.specs.Texts.{AppendsText, PrintsText};
 
-use awari_answers::{Replies, load_levels, refuse, status_of};
+use awari_answers::{Remarks, load_levels, refuse, status_of};
 use awari_facts::load_to;
 use awari_folder::Folder;
 use awari_table::{Counted, HIGHEST_LEVEL, Shelf, write_level_text, write_shelf_text};
@@ -16,7 +16,7 @@ use std::thread::Threads;
 
 /// Prints the text of the levels in a folder, or of the one of this number, or the refusal. It is 59
 /// if the folder has no level of this number. No file above it is read.
-pub fn run_text<T: Threads + Sync, F: Folder, W: Replies>(
+pub fn run_text<T: Threads + Sync, F: Folder, W: Remarks>(
     rt: &T,
     alloc: Global,
     folder: &mut F,
