@@ -12,7 +12,7 @@ ghost use Rattle.awari_streams.specs.Counted.{AppendsFront};
 ghost use Rattle.awari_table.specs.declared.TheConstants.{HIGHEST_LEVEL};
 
 use crate::printing::{Refused, print, print_line};
-use crate::remarks::Explained;
+use crate::remarking::Explained;
 use awari_board::Board;
 use awari_check::{Answer, CheckFault};
 use awari_faults::{Reason, Refusal};

@@ -11,7 +11,7 @@ ghost use Rattle.awari_streams.specs.Counted.{AppendsFront};
 
 use crate::asked::NoAnswer;
 use crate::printing::print_line;
-use crate::remarks::{Remarks, Unanswered};
+use crate::remarking::{Remarks, Unanswered};
 use arrayvec::ArrayVec;
 use awari_faults::{Field, Fields, Inside, Reason, Refusal, Value};
 use awari_members::{AnswerText, Form, form_of, push_string};

@@ -8,7 +8,7 @@ ghost use Rattle.awari_members.specs.Members.{line_text, said};
 ghost use Rattle.awari_members.specs.Forms.{form_of};
 ghost use Rattle.awari_streams.specs.Counted.{AppendsFront};
 
-use crate::remarks::{Explained, Remarks};
+use crate::remarking::{Explained, Remarks};
 use arrayvec::ArrayString;
 use awari_faults::Refusal;
 use awari_members::{Line, Member, form_of};
