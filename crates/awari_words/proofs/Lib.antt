@@ -1,3 +1,4 @@
 mod CommandLaws
 mod JoinedWords
+mod MadeCommands
 mod WordRows

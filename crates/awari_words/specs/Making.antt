@@ -1,7 +1,7 @@
 -- What the functions that make the commands say. No public contract goes by this.
 use Rattle.std.specs.Prelude.{◌≡◌, false, [], List, Result, IfOk, fold}
 use Rattle.clap.specs.Walk.{Rule, rule_of}
-use Rattle.clap.specs.Simple.{App, Shape, app_of, with_rule, with_subcommand}
+use Rattle.clap.specs.Simple.{App, Shape, app_of, with_subcommand}
 use Rattle.clap.specs.declared.builder.arg.Arg.{Arg}
 use Rattle.clap.specs.declared.builder.command.Command.{Command}
 use Rattle.clap.specs.declared.builder.command.Command.TheViews.{out-Command as fields_of}
@@ -24,9 +24,6 @@ MakesApp result app = IfOk result (λ made. IsApp made app)
 
 abbrev pub MakesCommand : {E : Type 0} → Result Command E → Shape → Type 0
 MakesCommand result shape = IfOk result (λ made. IsCommand made shape)
-
-abbrev pub with_words : App → List Rule → App
-with_words = fold with_rule
 
 abbrev pub with_subcommands : App → List Shape → App
 with_subcommands = fold with_subcommand

@@ -13,6 +13,9 @@ pub const AWARI_HELP: &str = "\
 The status is 0 if it is done, 1 if something was refused, and 2 if no command
 was understood. docs/MANUAL.md shows each command by an example.";
 
+/// What stands above the options of owners.
+pub const STUDY: &str = "To study the method; it is slower";
+
 pub const CHECK_HELP: &str = "\
 The input has a block of lines for each level 0, 1, 2 and so on, in order:
 

@@ -16,11 +16,11 @@
 //!     }
 #![tactic(auto)]
 
-mod arguments;
 mod commands;
 mod helps;
 mod joining;
 mod laws;
+mod making;
 mod requests;
 
 pub use joining::joined;

@@ -23,7 +23,7 @@ ghost use Rattle.awari_words.specs.Requests.{
   values,
 };
 
-use crate::commands::commands;
+use crate::making::commands;
 use awari_pace::Pace;
 use awari_queries::{
     AskQuery, BoardSpans, BoardsQuery, CountsQuery, LineQuery, MovesQuery, ServeQuery, TextQuery,

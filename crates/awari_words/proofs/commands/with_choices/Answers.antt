@@ -1,4 +1,0 @@
-use Rattle.awari_words.proofs.commands.with_choices.Goals as goal
-
-pub returns : goal.returns
-returns c = λ app made. c.with_word.ensures _ _ (c.with_word-command-3.ensures _ _ (c.with_word-command-2.ensures _ _ (c.with_word-command.ensures _ _ made c.flag-farthest.ensures) c.every.ensures) c.number_or_none-random.ensures) c.number_or_none-seed.ensures

@@ -1,4 +1,0 @@
-use Rattle.awari_words.proofs.commands.with_pace.Goals as goal
-
-pub returns : goal.returns
-returns c = λ app made. c.with_word.ensures _ _ (c.with_word-command-2.ensures _ _ (c.with_word-command.ensures _ _ made c.owners.ensures) c.room.ensures) c.sweeps.ensures
