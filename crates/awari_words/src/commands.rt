@@ -73,6 +73,7 @@ pub(crate) enum Values {
 /// The most threads that may be asked for.
 const MOST_THREADS: u64 = 64;
 
+/// The most that an option of a number takes.
 const MOST: u64 = u32::MAX as u64;
 
 const LEVELS: Values = Between(0, MOST_STONES as u64);
@@ -115,6 +116,7 @@ const SPAN: Kind<Text> = Valued("A..B", AnyText);
 /// The option of a number, which is 0 where it is not given.
 const NUMBER: Kind<Text> = Defaulted("N", Between(0, MOST), "0");
 
+/// All commands, in the order in which `awari help` has them.
 pub(crate) const COMMANDS: [CommandRow<Text, Words>; 16] = [
     CommandRow {
         name: "check",

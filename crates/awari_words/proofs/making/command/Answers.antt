@@ -1,4 +1,4 @@
-use Rattle.std.proofs.Common.{ap, rules, ◌∙◌}
+use Rattle.std.proofs.Common.{rules}
 use Rattle.awari_words.specs.Commands.{word_rule}
 use Rattle.awari_words.proofs.MadeCommands.{next_word}
 use Rattle.awari_words.proofs.making.command.Goals as goal
