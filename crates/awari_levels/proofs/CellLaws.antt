@@ -17,7 +17,7 @@ use Rattle.awari_levels.proofs.KeyLaws.{counted-push, get_or-set-cases}
 use Rattle.awari_levels.specs.Pairs.{has_pair}
 use Rattle.awari_levels.specs.Ranges.{below_of, number_at}
 use Rattle.awari_levels.specs.Tables.{AreTabled, AreTabledTo, HasCell, IsCell, IsCellAt, IsCellOf, cells_of, columns_of, rows_of}
-use Rattle.awari_levels.specs.declared.tables.Table.{Table}
+use Rattle.awari_levels.specs.declared.tables.CellTable.{CellTable}
 
 -- ---- places in a table
 
@@ -31,9 +31,6 @@ pub row-within : (rows w i : ℕ) → i < rows → i * w + w ≤ rows * w
 row-within rows w i inside =
     let next : i + 1 ≤ rows = omega (arith, inside) in
     omega (arith, mul-le-mul_right w next)
-
-pub cell-inside : (rows w i j : ℕ) → i < rows → j < w → i * w + j < rows * w
-cell-inside rows w i j row column = omega (arith, row-before w i rows j 0 row column)
 
 shift : (n b j : ℕ) → (n + b == n + j) ≡ (b == j)
 shift n b j = grind (arith, nat_tests)
@@ -65,7 +62,7 @@ pub number-key : (b j k : ℕ) → int_eq (pos j -ℤ pos b) (pos k -ℤ pos b) 
 number-key b j k = grind (arith, ints, nat_tests)
 
 -- a board has the numbers of a cell where that is its own
-pair-key : (images : List Image) (table : Table) (board : List ℕ) (cell i j : ℕ) → IsCellOf images table board cell → j < columns_of table
+pair-key : (images : List Image) (table : CellTable) (board : List ℕ) (cell i j : ℕ) → IsCellOf images table board cell → j < columns_of table
     → has_pair images table.pair.first table.pair.second (number_at table.pair.first i) (number_at table.pair.second j) board ≡ (cell == i * columns_of table + j)
 pair-key images table board cell i j own inside =
     ap (λ n. int_eq n (number_at table.pair.first i) && int_eq (number_in images table.pair.second board) (number_at table.pair.second j)) own.first_is
@@ -76,7 +73,7 @@ pair-key images table board cell i j own inside =
     ∙ ap (λ n. n == i * columns_of table + j) (sym own.is)
 
 -- the cell of a board by its numbers
-pub cell-own : (images : List Image) (table : Table) (board : List ℕ) (first second : ℤ) (cell : ℕ) → first ≡ number_in images table.pair.first board → second ≡ number_in images table.pair.second board
+pub cell-own : (images : List Image) (table : CellTable) (board : List ℕ) (first second : ℤ) (cell : ℕ) → first ≡ number_in images table.pair.first board → second ≡ number_in images table.pair.second board
     → IsCell table first second cell → IsCellOf images table board cell
 cell-own images table board first second cell one other is =
     subst (λ n. IsCell table (number_in images table.pair.first board) n cell) other (subst (λ n. IsCell table n second cell) one is)
@@ -100,7 +97,7 @@ one-more counts next cell inside is k =
     go true same = let is : cell ≡ k = alike cell k same in omega (arith, ap (λ i. get_or counts i 0) is)
     go false other = omega arith
 
-tabled-push : (images : List Image) (table : Table) (boards : List (List ℕ)) (board : List ℕ) (counts next : List ℕ) (cell : ℕ) → AreTabled images table boards counts → IsCellOf images table board cell
+tabled-push : (images : List Image) (table : CellTable) (boards : List (List ℕ)) (board : List ℕ) (counts next : List ℕ) (cell : ℕ) → AreTabled images table boards counts → IsCellOf images table board cell
     → cell < length counts → next ≡ set counts cell (get_or counts cell 0 + 1) → AreTabled images table (boards ++ board ∷ []) next
 tabled-push images table boards board counts next cell are own inside is = record { each = each }
   where
@@ -113,23 +110,23 @@ tabled-push images table boards board counts next cell are own inside is = recor
 
 -- ---- the boards of a level by rank
 
-pub tabled-none : (images : List Image) (table : Table) (counts : List ℕ) → ((k : ℕ) → get_or counts k 0 ≡ 0) → AreTabledTo images table 0 counts
+pub tabled-none : (images : List Image) (table : CellTable) (counts : List ℕ) → ((k : ℕ) → get_or counts k 0 ≡ 0) → AreTabledTo images table 0 counts
 tabled-none images table counts zeros = record { each = λ i j row column. zeros (i * columns_of table + j) }
 
-pub tabled-more : (images : List Image) (table : Table) (rank : ℕ) (board : List ℕ) (counts next : List ℕ) (cell : ℕ) → AreTabledTo images table rank counts → slice_get (tuples 12 table.level) rank ≡ Some board
+pub tabled-more : (images : List Image) (table : CellTable) (rank : ℕ) (board : List ℕ) (counts next : List ℕ) (cell : ℕ) → AreTabledTo images table rank counts → slice_get (tuples 12 table.level) rank ≡ Some board
     → IsCellOf images table board cell → cell < length counts → next ≡ set counts cell (get_or counts cell 0 + 1) → AreTabledTo images table (rank + 1) next
 tabled-more images table rank board counts next cell so_far listed own inside is =
     subst (λ bs. AreTabled images table bs next) (sym (take-read (tuples 12 table.level) rank board listed))
     (tabled-push images table (take rank (tuples 12 table.level)) board counts next cell so_far own inside is)
 
-pub tabled-all : (images : List Image) (table : Table) (rank : ℕ) (counts : List ℕ) → AreTabledTo images table rank counts → rank ≡ size_of table.level → AreTabled images table (tuples 12 table.level) counts
+pub tabled-all : (images : List Image) (table : CellTable) (rank : ℕ) (counts : List ℕ) → AreTabledTo images table rank counts → rank ≡ size_of table.level → AreTabled images table (tuples 12 table.level) counts
 unfolding size_of
 tabled-all images table rank counts all is =
     subst (λ bs. AreTabled images table bs counts) (take_all rank (tuples 12 table.level) (omega (arith, is))) all
 
 -- ---- cells that were found before they are counted
 
-pub has-cell : (images : List Image) (table : Table) (rank : ℕ) (board : List ℕ) (e : Entry) (first second : ℤ) (found : Option ℕ) → IsAt images table.level rank board e
+pub has-cell : (images : List Image) (table : CellTable) (rank : ℕ) (board : List ℕ) (e : Entry) (first second : ℤ) (found : Option ℕ) → IsAt images table.level rank board e
     → first ≡ number_in images table.pair.first board → second ≡ number_in images table.pair.second board → IfSome found (λ cell. cell < cells_of table) → IfSome found (IsCell table first second)
     → IsCellAt images table rank found
 has-cell images table rank board e first second None at one other inside is = tt
@@ -140,11 +137,11 @@ has-cell images table rank board e first second (Some cell) at one other inside 
   own = cell-own images table board first second cell one other is;
 }
 
-pub cell-found : (images : List Image) (table : Table) (rank cell : ℕ) (found : Option ℕ) → IsCellAt images table rank found → found ≡ Some cell → HasCell images table rank cell
+pub cell-found : (images : List Image) (table : CellTable) (rank cell : ℕ) (found : Option ℕ) → IsCellAt images table rank found → found ≡ Some cell → HasCell images table rank cell
 cell-found images table rank cell found there is = subst (IsCellAt images table rank) is there
 
 -- one board more, whose cell was found
-pub tabled-found : (images : List Image) (table : Table) (rank place : ℕ) (counts next : List ℕ) (cell : ℕ) → AreTabledTo images table (rank + place) counts → HasCell images table (rank + place) cell
+pub tabled-found : (images : List Image) (table : CellTable) (rank place : ℕ) (counts next : List ℕ) (cell : ℕ) → AreTabledTo images table (rank + place) counts → HasCell images table (rank + place) cell
     → cell < length counts → next ≡ set counts cell (get_or counts cell 0 + 1) → AreTabledTo images table (rank + (place + 1)) next
 tabled-found images table rank place counts next cell so_far has inside is =
     let one_more : rank + place + 1 ≡ rank + (place + 1) = omega arith in

@@ -87,9 +87,6 @@ farthest-unasked wanted images level none = sym (ap (λ b. cond b (farthest_amon
 
 -- ---- those that pass
 
-pub chosen-none : (wanted : Wanted) (images : List Image) (level : ℕ) → Chosen wanted images level 0 0 []
-chosen-none wanted images level = record { count = refl; list = refl }
-
 pick : {A : Type 0} (k passed next : ℕ) (front : List A) (x : A) (passes due : Bool) → passed ≡ length front → next ≡ passed + cond passes 1 0 → due ≡ (passes && (next % k == 0))
     → (next ≡ length (front ++ cond passes (x ∷ []) [])) × (each k 0 front ++ cond due (x ∷ []) [] ≡ each k 0 (front ++ cond passes (x ∷ []) []))
 pick k passed next front x false due before count is = (

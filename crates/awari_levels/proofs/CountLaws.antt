@@ -1,5 +1,5 @@
 -- The lines of values, of distances and of levels.
-use Rattle.std.proofs.Common.{◌≡◌, ℕ, ◌+◌, ◌<◌, List, [], ◌∷◌, ◌++◌, length, get_or, slice_get, take, Option, refl, sym, ◌∙◌, ap, subst, append_assoc, arith}
+use Rattle.std.proofs.Common.{◌≡◌, ℕ, ◌+◌, ◌<◌, Bool, count_by, List, [], ◌∷◌, ◌++◌, length, get_or, slice_get, take, Option, refl, sym, ◌∙◌, ap, subst, append_assoc, arith}
 use Rattle.std.proofs.KnownBytes.{Appends-trans}
 use Rattle.std.proofs.lemmas.Grind.{flat_map-append}
 use Rattle.std.proofs.lemmas.List.{append-nil}
@@ -13,32 +13,27 @@ use Rattle.awari_table.proofs.ShelfLemmas.{take-read}
 use Rattle.awari_facts.proofs.SourceLaws.{image_of}
 use Rattle.awari_levels.specs.Numbers.{AreNumbersOf}
 use Rattle.awari_levels.specs.declared.counts.Numbers.{Numbers}
+use Rattle.awari_queries.specs.declared.columns.Column.{Column}
 use Rattle.awari_queries.specs.declared.columns.Column.TheVariants.{Value, Distance}
 use Rattle.awari_members.specs.declared.forms.Form.{Form}
 use Rattle.awari_levels.specs.Counts.{boards_of_distance, boards_of_value, count_lines, distance_lines, lines_of_levels, names_of_levels, shown_level, shown_levels, shown_told, told_of, top_of, value_lines}
 use Rattle.awari_levels.specs.Ranges.{number_at}
 use Rattle.awari_levels.specs.Rows.{head_of, row_lines}
-use Rattle.awari_levels.specs.Tallies.{AreByDistance, AreByValue}
+use Rattle.awari_levels.specs.Tallies.{AreCounted}
 
--- the rows of values and of distances
-pub valued-all : (form : Form) (entries : List Entry) (counts : List ℕ) (before after : Option (List ℕ)) → AreByValue entries counts
-    → (((k : ℕ) → k < length counts → get_or counts k 0 ≡ boards_of_value entries (number_at Value k)) → Appends before after (row_lines form (head_of form Value) Value (λ k. boards_of_value entries (number_at Value k)) (length counts)))
-    → Appends before after (value_lines form entries)
-unfolding value_lines
-valued-all form entries counts before after are lines =
-    subst (λ n. Appends before after (row_lines form (head_of form Value) Value (λ k. boards_of_value entries (number_at Value k)) n)) are.long (lines (λ k inside. are.each k (omega (arith, inside, are.long))))
-
-pub distant-all : (form : Form) (limit : ℕ) (entries : List Entry) (counts : List ℕ) (before after : Option (List ℕ)) → AreByDistance limit entries counts
-    → (((k : ℕ) → k < length counts → get_or counts k 0 ≡ boards_of_distance entries k) → Appends before after (row_lines form (head_of form Distance) Distance (boards_of_distance entries) (length counts)))
-    → Appends before after (distance_lines form limit entries)
-unfolding distance_lines
-distant-all form limit entries counts before after are lines =
-    subst (λ n. Appends before after (row_lines form (head_of form Distance) Distance (boards_of_distance entries) n)) are.long (lines (λ k inside. are.each k (omega (arith, inside, are.long))))
+-- the row of a column's numbers
+pub row-counted : (form : Form) (column : Column) (test : ℕ → Entry → Bool) (n : ℕ) (entries : List Entry) (counts : List ℕ) (before after : Option (List ℕ)) → AreCounted test n entries counts
+    → ((boards : ℕ → ℕ) → ((k : ℕ) → k < length counts → get_or counts k 0 ≡ boards k) → Appends before after (row_lines form (head_of form column) column boards (length counts)))
+    → Appends before after (row_lines form (head_of form column) column (λ k. count_by (test k) entries) n)
+row-counted form column test n entries counts before after are lines =
+    subst (λ m. Appends before after (row_lines form (head_of form column) column (λ k. count_by (test k) entries) m)) are.long
+    (lines (λ k. count_by (test k) entries) (λ k inside. are.each k (omega (arith, inside, are.long))))
 
 -- what stands above a level's values and distances, and their lines
 pub counted-all : (form : Form) (image : Image) (told : LevelLine) (before first second after : Option (List ℕ)) → told ≡ told_of image → Appends before first (top_of form told)
-    → Appends first second (value_lines form image.entries) → Appends second after (distance_lines form image.limit image.entries) → Appends before after (count_lines form image)
-unfolding count_lines
+    → Appends first second (row_lines form (head_of form Value) Value (λ k. boards_of_value image.entries (number_at Value k)) 256)
+    → Appends second after (row_lines form (head_of form Distance) Distance (boards_of_distance image.entries) (image.limit + 1)) → Appends before after (count_lines form image)
+unfolding count_lines value_lines distance_lines
 counted-all form image told before first second after is top values distances =
     Appends-trans before first after _ _ (subst (λ t. Appends before first (top_of form t)) is top) (Appends-trans first second after _ _ values distances)
 

@@ -20,7 +20,7 @@ get_or-set-cases xs j k v inside = go (j == k) refl
         ap (λ i. get_or (set xs j v) i 0) same ∙ get_or-set_same xs j v 0 inside
     go false e = get_or-set_other xs j k v 0 (λ same. grind (arith, nat_tests))
 
-count_by-push : {A : Type 0} (p : A → Bool) (xs : List A) (x : A) → count_by p (xs ++ x ∷ []) ≡ count_by p xs + cond (p x) 1 0
+pub count_by-push : {A : Type 0} (p : A → Bool) (xs : List A) (x : A) → count_by p (xs ++ x ∷ []) ≡ count_by p xs + cond (p x) 1 0
 count_by-push p xs x = omega (arith, sum_by-append (λ y. cond (p y) 1 0) xs (x ∷ []), sum_by-cons (λ y. cond (p y) 1 0) x [])
 
 -- what stands at key k once something of key j is counted, if the test is whether k is its key

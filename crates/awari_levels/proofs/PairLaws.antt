@@ -1,9 +1,13 @@
--- The lines of a table, and what was asked for.
-use Rattle.std.proofs.Common.{◌≡◌, ℕ, ◌+◌, ◌-◌, ◌*◌, ◌<◌, ◌≤◌, true, false, Bor, List, [], ◌∷◌, ◌++◌, length, take, drop, get_or, Option, Some, sym, ◌∙◌, ap, subst, arith}
+-- The lines of a table, what was asked for, and why it is not counted.
+use Rattle.std.proofs.Common.{◌≡◌, ℕ, ◌+◌, ◌-◌, ◌*◌, ◌<◌, ◌≤◌, true, false, Bor, List, [], ◌∷◌, ◌++◌, length, take, drop, get_or, inl, inr, Option, Some, sym, ◌∙◌, ap, subst, arith}
 use Rattle.std.proofs.lemmas.List.{get_or-drop, get_or-take, length-drop, length-take-le}
 use Rattle.std.specs.Io.KnownBytes.{Appends}
 use Rattle.std.specs.List.{flat_map, range_with_len}
 use Rattle.awari_facts.specs.Sources.{limit_of}
+use Rattle.awari_folder.specs.Contents.{Same}
+use Rattle.awari_folder.specs.declared.faults.FolderFault.{FolderFault}
+use Rattle.awari_places.proofs.Reading.{still_says}
+use Rattle.awari_places.proofs.Running.{fault_before}
 use Rattle.awari_members.specs.Forms.{form_of}
 use Rattle.awari_queries.specs.Columns.{AsksForPair}
 use Rattle.awari_members.specs.declared.forms.Form.{Form}
@@ -15,8 +19,8 @@ use Rattle.awari_levels.specs.Pairs.{AppendsPairs, PrintsPairs, PrintsPairsBy, P
 use Rattle.awari_levels.specs.Ranges.{number_at, width_of}
 use Rattle.awari_levels.specs.Rows.{column_member, row_lines}
 use Rattle.awari_levels.proofs.CellLaws.{row-within}
-use Rattle.awari_levels.specs.Tables.{AreTabled, cells_of, columns_of, rows_of}
-use Rattle.awari_levels.specs.declared.tables.Table.{Table}
+use Rattle.awari_levels.specs.Tables.{AreTabled, IsCountFault, cells_of, columns_of, rows_of}
+use Rattle.awari_levels.specs.declared.tables.CellTable.{CellTable}
 
 -- the numbers of a row of the table
 part-long : (xs : List ℕ) (a w n : ℕ) → a + w ≤ length xs → n ≡ w → length (take n (drop a xs)) ≡ w
@@ -31,7 +35,7 @@ row-wide i w =
     omega (arith, next)
 
 -- the lines of that row
-pub row-all : (form : Form) (table : Table) (images : List Image) (counts : List ℕ) (i w a n : ℕ) (before after : Option (List ℕ)) → length counts ≡ cells_of table → i < rows_of table → AreTabled images table (tuples 12 table.level) counts
+pub row-all : (form : Form) (table : CellTable) (images : List Image) (counts : List ℕ) (i w a n : ℕ) (before after : Option (List ℕ)) → length counts ≡ cells_of table → i < rows_of table → AreTabled images table (tuples 12 table.level) counts
     → w ≡ columns_of table → a ≡ i * w → n ≡ w
     → ((boards : ℕ → ℕ) → ((k : ℕ) → k < length (take n (drop a counts)) → get_or (take n (drop a counts)) k 0 ≡ boards k)
     → Appends before after (row_lines form (column_member table.pair.first (number_at table.pair.first i) ∷ []) table.pair.second boards (length (take n (drop a counts)))))
@@ -76,9 +80,22 @@ pub printed-said : (stands : ℕ → Option (Option (List ℕ))) (query : Counts
 printed-said stands query before after is printed = subst (λ b. PrintsPairsBy b stands query before after) (sym is) printed
 
 -- the table of what was asked for, up to the level's limit
-pub table-asked : (form : Form) (table : Table) (images : List Image) (level : ℕ) (pair : Pair) (limit : ℕ) (items counts : List ℕ) (before after : Option (List ℕ)) → table ≡ record { level = level; pair = pair; limit = limit }
+pub table-asked : (form : Form) (table : CellTable) (images : List Image) (level : ℕ) (pair : Pair) (limit : ℕ) (items counts : List ℕ) (before after : Option (List ℕ)) → table ≡ record { level = level; pair = pair; limit = limit }
     → limit ≡ limit_of images level → counts ≡ items → AreTabled images table (tuples 12 table.level) items
     → (AreTabled images table (tuples 12 table.level) counts → Appends before after (pair_lines form table.pair images table.level table.limit)) → Appends before after (pair_lines form pair images level (limit_of images level))
 table-asked form table images level pair limit items counts before after is up_to same are lines =
     let written = lines (subst (AreTabled images table (tuples 12 table.level)) (sym same) are) in
-    subst (λ l. Appends before after (pair_lines form pair images level l)) up_to (subst (λ (t : Table). Appends before after (pair_lines form t.pair images t.level t.limit)) is written)
+    subst (λ l. Appends before after (pair_lines form pair images level l)) up_to (subst (λ (t : CellTable). Appends before after (pair_lines form t.pair images t.level t.limit)) is written)
+
+-- ---- why boards are not counted by a file, where no name changed
+
+abbrev Stands : Type 0
+Stands = ℕ → Option (Option (List ℕ))
+
+count-still : (table : CellTable) (old new : Stands) (fault : FolderFault) → Same old new → IsCountFault table new fault → IsCountFault table old fault
+count-still table old new fault same (inl is) = inl is
+count-still table old new fault same (inr (inl is)) = inr (inl (fault_before table.level 0 0 old new fault same (omega arith) is))
+count-still table old new fault same (inr (inr is)) = inr (inr (is.0, record { some = λ levels images says low. is.1.some levels images (still_says old new levels images same says) low }))
+
+pub count-before : (table asked : CellTable) (old new : Stands) (fault : FolderFault) → table ≡ asked → Same old new → IsCountFault table new fault → IsCountFault asked old fault
+count-before table asked old new fault is same due = subst (λ (t : CellTable). IsCountFault t old fault) is (count-still table old new fault same due)

@@ -196,26 +196,19 @@ module _ (images : List Image) (image : Image) (level : ℕ) (shelf : IsShelf im
       (λ i below. total-both (has_number images pair.first i) (has_number images pair.second) (width_of image.limit pair.second) (tuples 12 level) (all_placed pair.second other))
       ∙ total-counts (has_number images pair.first) (width_of image.limit pair.first) (tuples 12 level) (all_placed pair.first one)
 
-  pub values-sum : total (λ place. boards_of_value image.entries (number_at Value place)) 256 ≡ size_of level
-  values-sum = total-counts test 256 image.entries (All-from_get_or (HasKey test 256) image.entries no_entry keyed) ∙ sized
-    where
-      test : ℕ → Entry → Bool
-      test k e = int_eq e.value (number_at Value k)
+  -- the entries, by a test that each passes at one key
+  keyed-sum : (test : ℕ → Entry → Bool) (n : ℕ) → ((i : ℕ) → i < length image.entries → HasKey test n (get_or image.entries i no_entry)) → total (λ k. count_by (test k) image.entries) n ≡ size_of level
+  keyed-sum test n keyed = total-counts test n image.entries (All-from_get_or (HasKey test n) image.entries no_entry keyed) ∙ sized
 
-      keyed : (i : ℕ) → i < length image.entries → HasKey test 256 (get_or image.entries i no_entry)
-      keyed i inside =
-          let (p, whole, stones, same) = reached i inside in
-          let (j, below, is) = own-value p whole stones in
-          record { key = j; below = below; is = λ k. ap (λ v. int_eq v (number_at Value k)) (ap (λ (e : Entry). e.value) same ∙ is) ∙ number-key 128 j k }
+  pub values-sum : total (λ place. boards_of_value image.entries (number_at Value place)) 256 ≡ size_of level
+  values-sum = keyed-sum (λ k e. int_eq e.value (number_at Value k)) 256 (λ i inside.
+      let (p, whole, stones, same) = reached i inside in
+      let (j, below, is) = own-value p whole stones in
+      record { key = j; below = below; is = λ k. ap (λ v. int_eq v (number_at Value k)) (ap (λ (e : Entry). e.value) same ∙ is) ∙ number-key 128 j k })
 
   pub distances-sum : total (boards_of_distance image.entries) (image.limit + 1) ≡ size_of level
-  distances-sum = total-counts test (image.limit + 1) image.entries (All-from_get_or (HasKey test (image.limit + 1)) image.entries no_entry keyed) ∙ sized
-    where
-      test : ℕ → Entry → Bool
-      test k e = e.dist == k
-
-      keyed : (i : ℕ) → i < length image.entries → HasKey test (image.limit + 1) (get_or image.entries i no_entry)
-      keyed i inside = record { key = (get_or image.entries i no_entry).dist; below = omega (arith, near i inside); is = λ k. refl }
+  distances-sum =
+      keyed-sum (λ k e. e.dist == k) (image.limit + 1) (λ i inside. record { key = (get_or image.entries i no_entry).dist; below = omega (arith, near i inside); is = λ k. refl })
 
   pub shares-sum : won_boards image.entries + even_boards image.entries + lost_boards image.entries ≡ size_of level
   shares-sum = signs-sum image.entries ∙ sized

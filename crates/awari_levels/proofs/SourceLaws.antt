@@ -13,11 +13,6 @@ use Rattle.awari_table.specs.declared.images.Entry.{Entry}
 use Rattle.awari_table.specs.declared.images.Image.{Image}
 use Rattle.awari_levels.proofs.ChoiceLaws.{is_at, some_at}
 
-pub at_entry : (images : List Image) (level rank : ℕ) (board : List ℕ) (e : Entry) → IsEntryAt images level rank e → IsBoard board → sum board ≡ level → rank_of board ≡ rank → IsAt images level rank board e
-at_entry images level rank board e there whole stones ranked =
-    let (image, found, read) = image_of (slice_get images level) (λ image. slice_get image.entries rank ≡ Some e) there in
-    is_at images level rank image board e found read whole stones ranked
-
 pub some_entry : (images : List Image) (level rank : ℕ) (e : Entry) → IsEntryAt images level rank e → level ≤ 24 → rank < size_of level → (board : List ℕ) × IsAt images level rank board e
 some_entry images level rank e there low inside =
     let (image, found, read) = image_of (slice_get images level) (λ image. slice_get image.entries rank ≡ Some e) there in

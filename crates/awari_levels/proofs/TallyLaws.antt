@@ -1,15 +1,13 @@
 -- The entries of a level, counted one by one.
-use Rattle.std.proofs.Common.{◌≡◌, ◌==◌, Bool, ℕ, zero, suc, replicate, ◌+◌, ◌<◌, ◌≤◌, List, [], ◌∷◌, ◌++◌, length, get_or, set, slice_get, Option, Some, None, refl, sym, ap, subst, ◌∙◌, arith, inl, inr}
-use Rattle.std.specs.Ordering.{int_eq}
+use mir.Val.{bool_byte}
+use Rattle.std.proofs.Common.{◌≡◌, ◌==◌, Bool, true, false, ℕ, ◌+◌, ◌<◌, ◌≤◌, List, [], ◌∷◌, ◌++◌, length, count_by, get_or, set, slice_get, Option, Some, None, refl, sym, ap, subst, ◌∙◌, arith, inl, inr}
 use Rattle.std.specs.Prelude.{IsSomeAnd}
 use Rattle.std.proofs.lemmas.Bool.{cases_lt}
-use Rattle.std.proofs.lemmas.List.{ext_get_or, length-replicate, length-set, get_or_append_left, get_or_push, length-append}
-use Rattle.std.proofs.lemmas.List.Sums.{count_by-le-length}
+use Rattle.std.proofs.lemmas.List.{ext_get_or, length-set, get_or_append_left, get_or_push, length-append}
 use Rattle.std.proofs.lemmas.List.FromFn.{length-map-range_with_len}
 use Rattle.std.proofs.lemmas.Option.{get_or_from_slice_get, slice_get_within}
 use Rattle.awari_folder.specs.Contents.{Same}
 use Rattle.awari_places.proofs.Reading.{image_got, levels_said}
-use Rattle.awari_places.proofs.Running.{run-none}
 use Rattle.awari_places.specs.Places.{entry_in, image_in}
 use Rattle.awari_places.specs.Runs.{IsEntryAt, IsRunOf}
 use Rattle.awari_places.specs.declared.kept.Run.{Run}
@@ -17,26 +15,15 @@ use Rattle.awari_rank.specs.Rank.{size_of}
 use Rattle.awari_table.specs.Images.{no_entry, no_image}
 use Rattle.awari_table.specs.declared.images.Entry.{Entry}
 use Rattle.awari_table.specs.declared.images.Image.{Image}
-use Rattle.awari_answers.specs.LevelLines.{IsToldOf}
-use Rattle.awari_levels.proofs.KeyLaws.{counted-push}
-use Rattle.awari_levels.specs.Ranges.{number_at}
-use Rattle.awari_queries.specs.declared.columns.Column.TheVariants.{Value}
-use Rattle.awari_facts.specs.Sources.{limit_of}
+use Rattle.awari_levels.proofs.KeyLaws.{count_by-push, counted-push, one_if}
+use Rattle.awari_facts.specs.Sources.{SaysBy, levels_of, limit_of}
 use Rattle.awari_levels.specs.Numbers.{AreNumbersOf}
 use Rattle.awari_levels.specs.declared.counts.Numbers.{Numbers}
 use Rattle.awari_facts.proofs.SourceLaws.{image_of, says_still}
-use Rattle.awari_facts.specs.Sources.{SaysBy, levels_of}
-use Rattle.awari_levels.specs.Tallies.{AreCounted, AreEntriesOf, IsTallied, IsTallyOf, has_sign}
+use Rattle.awari_levels.specs.Tallies.{AreCounted, AreEntriesOf, IsTallied, IsTallyOf}
 use Rattle.awari_facts.specs.declared.sources.Source.{Source}
 use Rattle.awari_facts.specs.declared.sources.Source.TheVariants.{Memory, Files}
 use Rattle.awari_levels.specs.declared.tallies.Tally.{Tally}
-
-pub counted-none : (test : ℕ → Entry → Bool) (n : ℕ) (counts : List ℕ) → length counts ≡ n → ((k : ℕ) → k < n → get_or counts k 0 ≡ 0) → AreCounted test n [] counts
-counted-none test n counts long zeros = record { long = long; each = zeros }
-
--- no number is above that of the entries
-pub counted-few : (test : ℕ → Entry → Bool) (n : ℕ) (entries : List Entry) (counts : List ℕ) (j : ℕ) → AreCounted test n entries counts → j < n → get_or counts j 0 ≤ length entries
-counted-few test n entries counts j are below = omega (arith, are.each j below, count_by-le-length (test j) entries)
 
 -- one entry more, whose key is j
 pub counted-more : (test : ℕ → Entry → Bool) (n : ℕ) (entries : List Entry) (counts next : List ℕ) (j : ℕ) (e : Entry) → AreCounted test n entries counts → j < n → ((k : ℕ) → k < n → test k e ≡ (j == k))
@@ -46,35 +33,26 @@ counted-more test n entries counts next j e are below key is = record {
   each = λ k inside. counted-push (test k) entries e counts next j k (omega (arith, are.long, below)) is (key k inside) (are.each k inside);
 }
 
-pub zeros-replicate : (n k : ℕ) → k < n → get_or {A = ℕ} (replicate n 0) k 0 ≡ 0
-zeros-replicate zero k below = absurd (omega (arith, below))
-zeros-replicate (suc n) zero below = refl
-zeros-replicate (suc n) (suc k) below = zeros-replicate n k (omega (arith, below))
-
-zeros-counted : (test : ℕ → Entry → Bool) (n : ℕ) (counts : List ℕ) → counts ≡ replicate n 0 → AreCounted test n [] counts
-zeros-counted test n counts is = counted-none test n counts (ap length is ∙ length-replicate n 0) (λ k lt. ap (λ (xs : List ℕ). get_or xs k 0) is ∙ zeros-replicate n k lt)
-
--- no board is counted
-pub tally-none : (limit : ℕ) (tally : Tally) → tally.signs ≡ replicate 3 0 → tally.values ≡ replicate 256 0 → tally.distances.items ≡ replicate (limit + 1) 0 → IsTallyOf limit [] tally
-tally-none limit tally signs values distances = record {
-  signs = zeros-counted (λ k e. has_sign k e.value) 3 tally.signs signs;
-  values = zeros-counted (λ k e. int_eq e.value (number_at Value k)) 256 tally.values values;
-  distances = zeros-counted (λ k e. e.dist == k) (limit + 1) tally.distances.items distances;
-}
+-- one entry more that passes a test, or does not
+pub passed-more : (test : Entry → Bool) (entries : List Entry) (e : Entry) (n : ℕ) (passes : Bool) → n ≡ count_by test entries → test e ≡ passes → n + bool_byte passes ≡ count_by test (entries ++ e ∷ [])
+passed-more test entries e n true before is = omega (arith, before, count_by-push test entries e, ap one_if is)
+passed-more test entries e n false before is = omega (arith, before, count_by-push test entries e, ap one_if is)
 
 -- a level that is counted, and told of so
-pub numbered : (source : Source) (stands : ℕ → Option (Option (List ℕ))) (level limit : ℕ) (tally : Tally) (numbers : Numbers) (images : List Image) → IsTallied source stands level limit tally
-    → SaysBy source stands images → limit ≡ limit_of images level → numbers.tally ≡ tally
-    → ((image : Image) → image.level ≡ level → image.limit ≡ limit → length image.entries ≡ size_of level → IsTallyOf limit image.entries tally → IsToldOf image numbers.told)
-    → IsSomeAnd (slice_get images level) (λ image. AreNumbersOf image numbers)
-numbered source stands level limit tally numbers images tallied says is kept told =
+abbrev numbers_as : ℕ → ℕ → ℕ → Tally → Numbers
+numbers_as level boards limit tally = record { told = record { level = level; boards = boards; counts = tally.counts; limit = limit }; tally = tally }
+
+pub numbered : (source : Source) (stands : ℕ → Option (Option (List ℕ))) (level boards limit : ℕ) (tally : Tally) (images : List Image) → IsTallied source stands level limit tally → SaysBy source stands images
+    → limit ≡ limit_of images level → boards ≡ size_of level → IsSomeAnd (slice_get images level) (λ image. AreNumbersOf image (numbers_as level boards limit tally))
+numbered source stands level boards limit tally images tallied says is many =
     let (image, found, same) = image_of (slice_get images level) (λ image. (image.level ≡ level) × (image.entries ≡ tallied.entries)) (tallied.said images says) in
-    let limited : image.limit ≡ limit = ap (λ (m : Image). m.limit) (sym (get_or_from_slice_get images level image no_image found)) ∙ sym is in
+    let limited : limit ≡ image.limit = is ∙ ap (λ (m : Image). m.limit) (get_or_from_slice_get images level image no_image found) in
     let counted : IsTallyOf limit image.entries tally = subst (λ (es : List Entry). IsTallyOf limit es tally) (sym same.1) tallied.counted in
-    let all : IsTallyOf image.limit image.entries numbers.tally = subst (λ (l : ℕ). IsTallyOf l image.entries numbers.tally) (sym limited) (subst (λ (t : Tally). IsTallyOf limit image.entries t) (sym kept) counted) in
-    let as_told = told image same.0 limited (ap length same.1 ∙ tallied.many) counted in
-    let are : AreNumbersOf image numbers = record { told = as_told; tally = all } in
-    subst (λ (o : Option Image). IsSomeAnd o (λ m. AreNumbersOf m numbers)) (sym found) are
+    let are : AreNumbersOf image (numbers_as level boards limit tally) = record {
+      told = record { level = sym same.0; boards = many ∙ sym tallied.many ∙ ap length (sym same.1); won = counted.won; even = counted.even; lost = counted.lost; limit = limited };
+      tally = subst (λ (l : ℕ). IsTallyOf l image.entries tally) limited counted;
+    } in
+    subst (λ (o : Option Image). IsSomeAnd o (λ m. AreNumbersOf m (numbers_as level boards limit tally))) (sym found) are
 
 -- as many levels speak
 pub levels_by : (source : Source) (stands : ℕ → Option (Option (List ℕ))) (images : List Image) → SaysBy source stands images → length images ≡ levels_of source
@@ -91,14 +69,6 @@ pub record Tallied (source : Source) (stands : ℕ → Option (Option (List ℕ)
   pub many : length entries ≡ rank
   pub counted : IsTallyOf limit entries tally
   pub said : (images : List Image) → SaysBy source stands images → IsRunOf images level run × AreFirstOf images level entries
-
-pub tallied-none : (source : Source) (stands : ℕ → Option (Option (List ℕ))) (level limit : ℕ) (run : Run) (tally : Tally) → run.count ≡ 0 → IsTallyOf limit [] tally → Tallied source stands level limit 0 run tally
-tallied-none source stands level limit run tally empty counted = record {
-  entries = [];
-  many = refl;
-  counted = counted;
-  said = λ images says. (run-none images level run empty, λ k lt. absurd (omega (arith, lt)));
-}
 
 pushed : (images : List Image) (level : ℕ) (entries : List Entry) (e : Entry) → AreFirstOf images level entries → IsEntryAt images level (length entries) e → AreFirstOf images level (entries ++ e ∷ [])
 pushed images level entries e first here k lt = elim (cases_lt k (length entries)) [

@@ -12,20 +12,13 @@ use Rattle.awari_rank.specs.Tuples.{tuples}
 use Rattle.awari_table.specs.declared.images.Entry.{Entry}
 use Rattle.awari_table.specs.declared.images.Image.{Image}
 use Rattle.awari_facts.specs.Numbers.{IsAt}
-use Rattle.awari_levels.proofs.ChoiceLaws.{Weighs, chosen-all, chosen-more, chosen-none}
+use Rattle.awari_levels.proofs.ChoiceLaws.{Weighs, chosen-all, chosen-more}
 use Rattle.awari_levels.specs.Listing.{due_boards, each, farthest_of, is_within, key_if, passes, passing, sort_key, taken_boards}
 use Rattle.awari_levels.specs.Walks.{Chosen, Drawn, IsChoice, Steps, Walked}
 use Rattle.awari_levels.specs.declared.walks.Choice.{Choice}
 use Rattle.awari_levels.specs.declared.walks.Taken.{Taken}
 use Rattle.awari_levels.specs.declared.walks.Walk.{Walk}
 use Rattle.awari_levels.specs.declared.wanted.Wanted.{Wanted}
-
-nothing_taken : {A : Type 0} (d : Option Draw) → taken {A = A} d [] ≡ []
-nothing_taken None = refl
-nothing_taken (Some d) = refl
-
-pub drawn-none : (wanted : Wanted) (images : List Image) (level : ℕ) (sample : Option Draw) → Drawn wanted images level 0 0 sample sample []
-drawn-none wanted images level sample = record { due = []; chosen = chosen-none wanted images level; left = refl; taken = sym (nothing_taken sample) }
 
 -- the board of a rank that is not due
 pub drawn-skip : (wanted : Wanted) (images : List Image) (level rank passed next : ℕ) (sample draw : Option Draw) (boards : List (List ℕ)) (board : List ℕ) (e : Entry) (due : Bool)

@@ -1,9 +1,16 @@
 -- What is asked of `counts --by`. Private functions alone go by this: no public contract does.
-use Rattle.std.specs.Prelude.{◌≡◌, ℕ, List, Option, Some, None}
+use Rattle.std.specs.Prelude.{◌≡◌, ◌⊎◌, ◌<◌, ℕ, List, Option, Some, None}
 use Rattle.std.specs.Borrow.{Bor}
 use Rattle.awari_answers.specs.declared.asked.NoAnswer.{NoAnswer}
 use Rattle.awari_answers.specs.declared.asked.NoAnswer.TheVariants.{Column}
+use Rattle.awari_facts.specs.Sources.{limit_of}
+use Rattle.awari_folder.specs.declared.faults.FolderFault.{FolderFault}
 use Rattle.awari_members.specs.Forms.{form_of}
+use Rattle.awari_places.specs.Faults.{IsLimitFault}
+use Rattle.awari_places.specs.Places.{Says}
+use Rattle.awari_rank.specs.Rank.{size_of}
+use Rattle.awari_table.specs.declared.images.Image.{Image}
+use Rattle.awari_levels.specs.Tables.{IsCountFault, wrong_limit}
 use Rattle.awari_queries.specs.Columns.{AsksForPair, HasNoPair}
 use Rattle.awari_queries.specs.declared.columns.NoColumn.{NoColumn}
 use Rattle.awari_queries.specs.declared.columns.NoColumn.TheVariants.{By, Level}
@@ -31,3 +38,10 @@ IsNoWish (Some level) by fault = IsNoPair by fault
 abbrev pub IsRefused : CountsQuery → NoAnswer → Type 0
 IsRefused query (Column fault) = IsNoWish query.level query.by fault
 IsRefused query other = ⊥
+
+-- Why the boards of a level are not printed by its file: as its limit is not read, as 83 with V7 if that is above the number of
+-- boards, or as they are not counted up to it.
+abbrev pub IsPairsFault : Wish → (ℕ → Option (Option (List ℕ))) → FolderFault → Type 0
+IsPairsFault wish stands fault = ((name : Option (List ℕ)) → stands wish.level ≡ Some name → IsLimitFault wish.level name fault)
+    ⊎ ((limit : ℕ) × ((levels : ℕ) (images : List Image) → Says stands levels images → wish.level < levels → limit ≡ limit_of images wish.level)
+    × (((fault ≡ wrong_limit wish.level) × (size_of wish.level < limit)) ⊎ IsCountFault (record { level = wish.level; pair = wish.pair; limit = limit }) stands fault))

@@ -14,16 +14,16 @@ use Rattle.awari_table.specs.declared.images.Image.{Image}
 use Rattle.awari_levels.specs.Pairs.{has_pair}
 use Rattle.awari_levels.specs.Ranges.{number_at, width_of}
 use Rattle.awari_levels.specs.declared.cells.Start.{Start}
-use Rattle.awari_levels.specs.declared.tables.Table.{Table}
+use Rattle.awari_levels.specs.declared.tables.CellTable.{CellTable}
 
 -- how many rows and columns the table has
-abbrev pub rows_of : Table → ℕ
+abbrev pub rows_of : CellTable → ℕ
 rows_of table = width_of table.limit table.pair.first
 
-abbrev pub columns_of : Table → ℕ
+abbrev pub columns_of : CellTable → ℕ
 columns_of table = width_of table.limit table.pair.second
 
-abbrev pub cells_of : Table → ℕ
+abbrev pub cells_of : CellTable → ℕ
 cells_of table = rows_of table * columns_of table
 
 -- an entry and the rules say both numbers
@@ -31,7 +31,7 @@ abbrev pub IsOwn : Pair → Type 0
 IsOwn pair = (is_own pair.first ≡ true) × (is_own pair.second ≡ true)
 
 -- the cell of two numbers
-pub record IsCell (table : Table) (first second : ℤ) (cell : ℕ) : Type 0 where
+pub record IsCell (table : CellTable) (first second : ℤ) (cell : ℕ) : Type 0 where
   pub row : ℕ
   pub column : ℕ
   pub row_inside : row < rows_of table
@@ -41,16 +41,16 @@ pub record IsCell (table : Table) (first second : ℤ) (cell : ℕ) : Type 0 whe
   pub is : cell ≡ row * columns_of table + column
 
 -- that of a board's numbers
-abbrev pub IsCellOf : List Image → Table → List ℕ → ℕ → Type 0
+abbrev pub IsCellOf : List Image → CellTable → List ℕ → ℕ → Type 0
 IsCellOf images table board cell = IsCell table (number_in images table.pair.first board) (number_in images table.pair.second board) cell
 
 -- each cell has the number of those of these boards that have its two numbers
-pub record AreTabled (images : List Image) (table : Table) (boards : List (List ℕ)) (counts : List ℕ) : Type 0 where
+pub record AreTabled (images : List Image) (table : CellTable) (boards : List (List ℕ)) (counts : List ℕ) : Type 0 where
   pub each : (i j : ℕ) → i < rows_of table → j < columns_of table
       → slice_index counts (i * columns_of table + j) ≡ count_by (has_pair images table.pair.first table.pair.second (number_at table.pair.first i) (number_at table.pair.second j)) boards
 
 -- this many boards of the level are counted
-abbrev pub AreTabledTo : List Image → Table → ℕ → List ℕ → Type 0
+abbrev pub AreTabledTo : List Image → CellTable → ℕ → List ℕ → Type 0
 AreTabledTo images table rank counts = AreTabled images table (take rank (tuples 12 table.level)) counts
 
 -- 83 with V7 of a level
@@ -58,27 +58,27 @@ abbrev pub wrong_limit : ℕ → FolderFault
 wrong_limit level = Verify level (Refused 0 V7)
 
 -- some board of the level has no cell, by what the files say
-pub record HasNoCell (table : Table) (stands : ℕ → Option (Option (List ℕ))) : Type 0 where
+pub record HasNoCell (table : CellTable) (stands : ℕ → Option (Option (List ℕ))) : Type 0 where
   pub some : (levels : ℕ) (images : List Image) → Says stands levels images → table.level < levels → (rank : ℕ) × (board : List ℕ) × (slice_get (tuples 12 table.level) rank ≡ Some board)
       × ((cell : ℕ) → IsCellOf images table board cell → ⊥)
 
 -- Why the boards of a level are not counted by its file: 84, or as the entry of some rank is refused, or 83 with V7 if a board has no
 -- cell.
-abbrev pub IsCountFault : Table → (ℕ → Option (Option (List ℕ))) → FolderFault → Type 0
+abbrev pub IsCountFault : CellTable → (ℕ → Option (Option (List ℕ))) → FolderFault → Type 0
 IsCountFault table stands fault = (fault ≡ Memory) ⊎ (IsFaultFrom table.level 0 (stands table.level) fault ⊎ ((fault ≡ wrong_limit table.level) × HasNoCell table stands))
 
 -- the board of a rank is in this cell
-pub record HasCell (images : List Image) (table : Table) (rank cell : ℕ) : Type 0 where
+pub record HasCell (images : List Image) (table : CellTable) (rank cell : ℕ) : Type 0 where
   pub inside : cell < cells_of table
   pub board : List ℕ
   pub listed : slice_get (tuples 12 table.level) rank ≡ Some board
   pub own : IsCellOf images table board cell
 
-abbrev pub IsCellAt : List Image → Table → ℕ → Option ℕ → Type 0
+abbrev pub IsCellAt : List Image → CellTable → ℕ → Option ℕ → Type 0
 IsCellAt images table rank found = IfSome found (HasCell images table rank)
 
 -- these are the cells of successive ranks
-pub record AreCellsFrom (images : List Image) (table : Table) (rank : ℕ) (found : List (Option ℕ)) : Type 0 where
+pub record AreCellsFrom (images : List Image) (table : CellTable) (rank : ℕ) (found : List (Option ℕ)) : Type 0 where
   pub each : (k : ℕ) → k < length found → IsCellAt images table (rank + k) (slice_index_or found k None)
 
 -- this many boards of a level follow from the segment's first one on

@@ -1,7 +1,8 @@
 -- Numbers of boards by sign, by value and by distance. Private functions alone go by these: no public contract does.
-use Rattle.std.specs.Prelude.{◌≡◌, ℕ, zero, suc, ◌+◌, ◌==◌, ◌<◌, Bool, List, length, count_by, slice_get, slice_index, Option, IsSomeAnd, ℤ, pos, int_lt}
+use Rattle.std.specs.Prelude.{◌≡◌, ℕ, ◌+◌, ◌==◌, ◌<◌, Bool, List, length, count_by, slice_get, slice_index, Option, IsSomeAnd}
 use Rattle.std.specs.Ordering.{int_eq}
 use Rattle.awari_rank.specs.Rank.{size_of}
+use Rattle.awari_table.specs.Images.{even_boards, lost_boards, won_boards}
 use Rattle.awari_table.specs.declared.images.Entry.{Entry}
 use Rattle.awari_table.specs.declared.images.Image.{Image}
 use Rattle.awari_levels.specs.Ranges.{number_at}
@@ -10,19 +11,10 @@ use Rattle.awari_facts.specs.Sources.{SaysBy}
 use Rattle.awari_facts.specs.declared.sources.Source.{Source}
 use Rattle.awari_levels.specs.declared.tallies.Tally.{Tally}
 
--- the value has the sign of this number: lost, even, won
-abbrev pub has_sign : ℕ → ℤ → Bool
-has_sign zero value = int_lt value (pos 0)
-has_sign (suc zero) value = int_eq value (pos 0)
-has_sign (suc (suc k)) value = int_lt (pos 0) value
-
 -- how many of these entries pass the test of each number below n
 pub record AreCounted (test : ℕ → Entry → Bool) (n : ℕ) (entries : List Entry) (counts : List ℕ) : Type 0 where
   pub long : length counts ≡ n
   pub each : (k : ℕ) → k < n → slice_index counts k ≡ count_by (test k) entries
-
-abbrev pub AreBySign : List Entry → List ℕ → Type 0
-AreBySign = AreCounted (λ k e. has_sign k e.value) 3
 
 abbrev pub AreByValue : List Entry → List ℕ → Type 0
 AreByValue = AreCounted (λ k e. int_eq e.value (number_at Value k)) 256
@@ -32,8 +24,10 @@ abbrev pub AreByDistance : ℕ → List Entry → List ℕ → Type 0
 AreByDistance limit = AreCounted (λ k e. e.dist == k) (limit + 1)
 
 pub record IsTallyOf (limit : ℕ) (entries : List Entry) (tally : Tally) : Type 0 where
-  pub signs : AreBySign entries tally.signs
-  pub values : AreByValue entries tally.values
+  pub won : tally.counts.won ≡ won_boards entries
+  pub even : tally.counts.even ≡ even_boards entries
+  pub lost : tally.counts.lost ≡ lost_boards entries
+  pub values : AreByValue entries tally.values.items
   pub distances : AreByDistance limit entries tally.distances.items
 
 -- the level of this number is there, and has these entries

@@ -5,10 +5,10 @@ ghost use Rattle.awari_facts.specs.Sources.{images_of};
 ghost use Rattle.awari_rank.specs.Rank.{size_of};
 ghost use Rattle.awari_rank.specs.Tuples.{tuples};
 ghost use Rattle.awari_table.specs.declared.images.Image.{Image};
-ghost use Rattle.awari_levels.specs.declared.tables.Table.{Table as ATable};
+ghost use Rattle.awari_levels.specs.declared.tables.CellTable.{CellTable as ATable};
 ghost use Rattle.awari_levels.specs.Tables.{AreCellsFrom, AreTabled, AreTabledTo, IsCellAt, HasBoards, cells_of};
 
-use crate::tables::{Table, cell_at, count_cell, new_counts, wrong_limit};
+use crate::tables::{CellTable, cell_at, count_cell, new_counts, wrong_limit};
 use awari_facts::{Levels, Seen, entry_on, levels_in, number_of};
 use awari_folder::FolderFault;
 use awari_rank::size;
@@ -23,14 +23,14 @@ const SEGMENT: u32 = 65536;
 #[derive(Clone, Copy)]
 struct Start {
     /// What is counted.
-    table: Table,
+    table: CellTable,
     /// The rank of its first board.
     first: u32,
 }
 
 /// The cell of the board of a rank. There is none if a number is none that its column may have. Conditions:
 /// the level is there, and has that many boards; the cells fit in memory.
-fn cell_on(levels: Levels<'_>, table: Table, rank: u32) -> Option<usize>
+fn cell_on(levels: Levels<'_>, table: CellTable, rank: u32) -> Option<usize>
     requires level { table.level < length (images_of levels) }
     requires rank { rank < size_of table.level }
     requires cells { cells_of table < 2 ^ 64 }
@@ -119,7 +119,7 @@ pub(crate) fn count_on<T: Threads + Sync>(
     rt: &T,
     alloc: Global,
     levels: Levels<'_>,
-    table: Table,
+    table: CellTable,
 ) -> Result<Vec<u32>, FolderFault>
     requires { table.level < length (images_of levels) }
     ensures long { IfOk result (λ counts. vec_len counts ≡ cells_of table) }

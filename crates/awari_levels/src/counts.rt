@@ -1,17 +1,15 @@
 //! The command `counts`: the levels of a folder in numbers.
 
-ghost use Rattle.std.specs.Prelude.{◌≡◌, ◌<◌, ◌≤◌, ◌+◌, List, IfOk, IfSome, IsSomeAnd, Ok, length, slice_get, true};
+ghost use Rattle.std.specs.Prelude.{◌≡◌, ◌<◌, ◌≤◌, ◌+◌, List, IfErr, IfOk, IfSome, IsSomeAnd, Ok, length, slice_get, true};
 ghost use Rattle.std.specs.Io.KnownBytes.{Appends};
-ghost use Rattle.awari_answers.specs.LevelLines.{IsToldOf};
-ghost use Rattle.awari_folder.specs.Contents.{Same};
+ghost use Rattle.awari_folder.specs.Contents.{Lacks, Same};
 ghost use Rattle.awari_folder.specs.State.{Unchanged};
-ghost use Rattle.awari_rank.specs.Rank.{size_of};
 ghost use Rattle.awari_table.specs.declared.TheConstants.{HIGHEST_LEVEL};
 ghost use Rattle.awari_table.specs.declared.images.Entry.{Entry as AnEntry};
 ghost use Rattle.awari_table.specs.declared.images.Image.{Image};
 ghost use Rattle.awari_levels.specs.Counts.{AppendsCounts, PrintsCountsBy, PrintsCountsSaid, count_lines, shown_levels};
 ghost use Rattle.awari_members.specs.Forms.{form_of};
-ghost use Rattle.awari_levels.specs.Numbers.{AreNumbersOf, HasLevels, HasOpened};
+ghost use Rattle.awari_levels.specs.Numbers.{AreNumbersOf, HasLevels, HasOpened, IsNotLoaded, IsNotOpened};
 ghost use Rattle.awari_facts.specs.Sources.{SaysBy, levels_of};
 ghost use Rattle.awari_levels.specs.Tallies.{IsTallyOf};
 
@@ -25,7 +23,7 @@ use awari_members::{Form, form_of};
 use awari_places::Opened;
 use awari_queries::{Column, CountsQuery};
 use awari_rank::size;
-use awari_table::{Counts, HIGHEST_LEVEL, Shelf};
+use awari_table::{HIGHEST_LEVEL, Shelf};
 use std::alloc::Global;
 use std::io::Write;
 use std::thread::Threads;
@@ -54,27 +52,13 @@ fn numbers_of<F: Folder>(
 {
     let limit = read_limit(source, folder, level)?;
     let tally = tally_level(alloc, source, folder, level, limit)?;
-    Ok(numbers_from(level, limit, tally))
-}
-
-/// The numbers of a level of this limit whose boards are counted.
-fn numbers_from(level: u8, limit: u32, tally: Tally) -> Numbers
-    requires { level ≤ HIGHEST_LEVEL }
-    ensures limit { result.told.limit ≡ limit }
-    ensures tally { result.tally ≡ tally }
-    ensures told { (image : Image) → image.level ≡ level → image.limit ≡ limit → length image.entries ≡ size_of level → IsTallyOf limit image.entries tally → IsToldOf image result.told }
-{
     let told = LevelLine {
         level,
         boards: size(level),
-        counts: Counts {
-            won: tally.signs[2],
-            even: tally.signs[1],
-            lost: tally.signs[0],
-        },
+        counts: tally.counts,
         limit,
     };
-    Numbers { told, tally }
+    Ok(Numbers { told, tally })
 }
 
 /// Prints what stands above, and the lines of a level's values and distances, and says whether the writer took
@@ -92,7 +76,7 @@ fn print_numbers<W: Write>(numbers: &Numbers, form: Form, writer: &mut W) -> boo
         beside: None,
         column: Column::Value,
     };
-    if !print_row(&numbers.tally.values, values, form, writer) {
+    if !print_row(numbers.tally.values.as_slice(), values, form, writer) {
         return false;
     }
     let distances = Row {
@@ -160,7 +144,8 @@ fn refuse_counts<W: Remarks>(writer: &mut W, query: CountsQuery<'_>, fault: NoAn
     refuse_level(writer, form, "counts", query.level, fault)
 }
 
-/// The levels in a folder, up to the one of this number if there is one.
+/// The levels in a folder, up to the one of this number if there is one. It is refused as [`load_levels`] is, or
+/// as [`load_to`] is.
 fn load_for<T: Threads + Sync, F: Folder>(
     rt: &T,
     alloc: Global,
@@ -169,6 +154,7 @@ fn load_for<T: Threads + Sync, F: Folder>(
 ) -> Result<Shelf, NoAnswer>
     ensures levels { IfOk result (HasLevels level (F.state folder.old).stands) }
     ensures same { Same (F.state folder.old).stands (F.state folder.new).stands }
+    ensures fault { IfErr result (IsNotLoaded (Lacks (F.state folder.old).refusals (F.state folder.new).refusals) level (F.state folder.old).stands) }
 {
     if let Some(number) = level {
         return load_to(rt, alloc, folder, number);
@@ -230,11 +216,13 @@ fn run_counts_said<F: Folder, W: Remarks>(
     }
 }
 
-/// The levels in a folder, up to the one of this number if there is one, by the headers of their files.
+/// The levels in a folder, up to the one of this number if there is one, by the headers of their files. It is
+/// refused as [`open_all`] is, or as [`open_to`] is.
 fn open_for<F: Folder>(folder: &mut F, level: Option<u8>) -> Result<Opened, NoAnswer>
     ensures opened { IfOk result (HasOpened level (F.state folder.old).stands) }
     ensures few { IfOk result (λ opened. opened.levels ≤ HIGHEST_LEVEL + 1) }
     ensures same { Same (F.state folder.old).stands (F.state folder.new).stands }
+    ensures fault { IfErr result (IsNotOpened level (F.state folder.old).stands) }
 {
     match level {
         Some(number) => open_to(folder, number),

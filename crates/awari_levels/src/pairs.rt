@@ -6,18 +6,19 @@ ghost use Rattle.awari_facts.specs.Sources.{IsSaidOf, images_of, limit_of};
 ghost use Rattle.awari_folder.specs.Contents.{Same};
 ghost use Rattle.awari_folder.specs.State.{Unchanged};
 ghost use Rattle.awari_places.specs.Places.{Says};
+ghost use Rattle.awari_rank.specs.Rank.{size_of};
 ghost use Rattle.awari_rank.specs.Tuples.{tuples};
 ghost use Rattle.awari_table.specs.declared.TheConstants.{HIGHEST_LEVEL};
 ghost use Rattle.awari_table.specs.declared.images.Image.{Image};
 ghost use Rattle.awari_levels.specs.Pairs.{PrintsPairsBy, header_of, pair_lines};
-ghost use Rattle.awari_levels.specs.Tables.{AreTabled, IsOwn, cells_of};
-ghost use Rattle.awari_levels.specs.Asking.{IsRefused, IsWish};
+ghost use Rattle.awari_levels.specs.Tables.{AreTabled, IsOwn, cells_of, wrong_limit};
+ghost use Rattle.awari_levels.specs.Asking.{IsPairsFault, IsRefused, IsWish};
 
 use crate::cells::count_on;
 use crate::ranges::width_of;
 use crate::rows::{Placed, Row, print_row};
 use crate::shown::Names;
-use crate::tables::{Table, count_own, wrong_limit};
+use crate::tables::{CellTable, count_own, wrong_limit};
 use awari_answers::{NoAnswer, Remarks, print, refuse_level, status_of};
 use awari_facts::{Levels, is_own, levels_in, limit_on, load_to, open_to};
 use awari_folder::{Folder, FolderFault};
@@ -50,7 +51,7 @@ fn print_header<W: Write>(form: Form, pair: Pair, writer: &mut W) -> bool
 
 /// Prints a line for each pair of numbers that some boards have, and says whether the writer took them.
 /// These are how many boards are in each cell.
-fn print_table<W: Write>(counts: &[u32], table: Table, form: Form, writer: &mut W) -> bool
+fn print_table<W: Write>(counts: &[u32], table: CellTable, form: Form, writer: &mut W) -> bool
     requires { length counts.now ≡ cells_of table }
     ensures { (images : List Image) → AreTabled images table (tuples 12 table.level) counts.now → result ≡ true
         → Appends (W.contents writer.old) (W.contents writer.new) (pair_lines form table.pair images table.level table.limit) }
@@ -79,14 +80,15 @@ fn print_table<W: Write>(counts: &[u32], table: Table, form: Form, writer: &mut 
 
 /// What is counted of a level with this limit. It is refused as 83 with V7 if the limit is above the number of
 /// boards: a distance is below that. Condition: the level is at most 24.
-fn table_of(wish: Wish, limit: u32) -> Result<Table, FolderFault>
+fn table_of(wish: Wish, limit: u32) -> Result<CellTable, FolderFault>
     requires { wish.level ≤ HIGHEST_LEVEL }
-    ensures { IfOk result (λ table. table ≡ record { level = wish.level; pair = wish.pair; limit = limit }) }
+    ensures table { IfOk result (λ table. table ≡ record { level = wish.level; pair = wish.pair; limit = limit }) }
+    ensures fault { IfErr result (λ fault. (fault ≡ wrong_limit wish.level) × (size_of wish.level < limit)) }
 {
     if limit > size(wish.level) {
         return Err(wrong_limit(wish.level));
     }
-    Ok(Table {
+    Ok(CellTable {
         level: wish.level,
         pair: wish.pair,
         limit,
@@ -116,8 +118,8 @@ fn print_pairs_on<T: Threads + Sync, W: Write>(
 
 /// Prints the boards of a level by two columns, by what its file says, and says whether the writer took that.
 /// Conditions: an entry and the rules say both numbers, and the level is at most 24. It takes memory for four
-/// bytes a pair of numbers, and is refused as 84 if that is not there. It is refused as 83 with V7 if the limit
-/// is above the number of boards or a distance is above the limit.
+/// bytes a pair of numbers. It is refused as [`limit_in_header`] and [`count_own`] are, and as 83 with V7 if the
+/// limit is above the number of boards.
 fn print_own_pairs<F: Folder, W: Write>(
     alloc: Global,
     folder: &mut F,
@@ -129,6 +131,7 @@ fn print_own_pairs<F: Folder, W: Write>(
     ensures printed { (levels : ℕ) (images : List Image) → Says (F.state folder.old).stands levels images → wish.level < levels → result ≡ Ok true
         → Appends (W.contents writer.old) (W.contents writer.new) (pair_lines wish.form wish.pair images wish.level (limit_of images wish.level)) }
     ensures same { Unchanged (F.state folder.old) (F.state folder.new) }
+    ensures fault { IfErr result (IsPairsFault wish (F.state folder.old).stands) }
 {
     let limit = limit_in_header(folder, wish.level)?;
     let table = table_of(wish, limit)?;

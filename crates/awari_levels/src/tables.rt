@@ -21,7 +21,7 @@ use std::alloc::Global;
 
 /// What is counted: the boards of a level, by two columns, where no distance is above the limit.
 #[derive(Clone, Copy)]
-pub(crate) struct Table {
+pub(crate) struct CellTable {
     /// The level.
     pub(crate) level: u8,
     /// The columns.
@@ -30,26 +30,36 @@ pub(crate) struct Table {
     pub(crate) limit: u32,
 }
 
-/// No board in any cell. It takes memory for four bytes a cell, and is refused as 84 if that is not there.
-pub(crate) fn new_counts(alloc: Global, table: Table) -> Result<Vec<u32>, FolderFault>
-    ensures long { IfOk result (λ counts. vec_len counts ≡ cells_of table) }
+/// No board in any of so many cells. It takes memory for four bytes a cell, and is refused as 84 if that is not
+/// there.
+pub(crate) fn new_row(alloc: Global, cells: usize) -> Result<Vec<u32>, FolderFault>
+    ensures long { IfOk result (λ counts. vec_len counts ≡ cells) }
     ensures zeros { IfOk result (λ counts. (k : ℕ) → slice_index counts.items k ≡ 0) }
     ensures fault { IfErr result (λ fault. fault ≡ FolderFault.Memory) }
 {
-    let rows = width_of(table.pair.first, table.limit);
-    let columns = width_of(table.pair.second, table.limit);
-    let Some(cells) = rows.checked_mul(columns) else {
-        return Err(FolderFault::Memory);
-    };
     match vec![in alloc; 0u32; cells] {
         Ok(counts) => Ok(counts),
         Err(_) => Err(FolderFault::Memory),
     }
 }
 
+/// No board in any cell of a table, likewise.
+pub(crate) fn new_counts(alloc: Global, table: CellTable) -> Result<Vec<u32>, FolderFault>
+    ensures long { IfOk result (λ counts. vec_len counts ≡ cells_of table) }
+    ensures zeros { IfOk result (λ counts. (k : ℕ) → slice_index counts.items k ≡ 0) }
+    ensures fault { IfErr result (λ fault. fault ≡ FolderFault.Memory) }
+{
+    let rows = width_of(table.pair.first, table.limit);
+    let columns = width_of(table.pair.second, table.limit);
+    match rows.checked_mul(columns) {
+        Some(cells) => new_row(alloc, cells),
+        None => Err(FolderFault::Memory),
+    }
+}
+
 /// The cell of two numbers. There is none if one of them is none that its column may have. Condition: the
 /// cells fit in memory.
-pub(crate) fn cell_at(table: Table, first: i64, second: i64) -> Option<usize>
+pub(crate) fn cell_at(table: CellTable, first: i64, second: i64) -> Option<usize>
     requires { cells_of table < 2 ^ 64 }
     ensures inside { IfSome result (λ cell. cell < cells_of table) }
     ensures cell { IfSome result (IsCell table first second) }
@@ -63,7 +73,7 @@ pub(crate) fn cell_at(table: Table, first: i64, second: i64) -> Option<usize>
 /// The cell of a board, if its entry and the rules say both numbers. It is refused as 83 with V7 if a number is
 /// none that its column may have, as a distance above the limit is. Conditions: the level is at most 24, and has
 /// that many boards; the cells fit in memory.
-fn own_cell(table: Table, seen: &Seen) -> Result<usize, FolderFault>
+fn own_cell(table: CellTable, seen: &Seen) -> Result<usize, FolderFault>
     requires own { IsOwn table.pair }
     requires level { seen.now.level ≤ HIGHEST_LEVEL }
     requires rank { seen.now.rank < size_of seen.now.level }
@@ -102,7 +112,7 @@ pub(crate) fn count_cell(counts: &mut Vec<u32>, cell: usize)
 pub(crate) fn count_own<F: Folder>(
     alloc: Global,
     folder: &mut F,
-    table: Table,
+    table: CellTable,
 ) -> Result<Vec<u32>, FolderFault>
     requires own { IsOwn table.pair }
     requires level { table.level ≤ HIGHEST_LEVEL }

@@ -1,6 +1,6 @@
 //! How many boards of a level have each value, each sign and each distance.
 
-ghost use Rattle.std.specs.Prelude.{◌≡◌, ◌<◌, ◌≤◌, ◌+◌, ◌++◌, ◌==◌, ◌∷◌, [], ℕ, List, IfOk, length, slice_index, slice_set, vec_len};
+ghost use Rattle.std.specs.Prelude.{◌≡◌, ◌<◌, ◌≤◌, ◌++◌, ◌∷◌, [], ℕ, List, IfOk, length, vec_len};
 ghost use Rattle.awari_folder.specs.State.{Unchanged};
 ghost use Rattle.awari_rank.specs.Rank.{size_of};
 ghost use Rattle.awari_table.specs.declared.TheConstants.{HIGHEST_LEVEL};
@@ -9,66 +9,52 @@ ghost use Rattle.awari_table.specs.declared.images.Image.{Image};
 ghost use Rattle.awari_levels.specs.Ranges.{number_at};
 ghost use Rattle.awari_queries.specs.declared.columns.Column.TheVariants.{Value};
 ghost use Rattle.awari_facts.specs.Sources.{SaysBy, levels_of};
-ghost use Rattle.awari_levels.specs.Tallies.{IsTallied, IsTallyOf, has_sign};
+ghost use Rattle.awari_levels.specs.Tallies.{IsTallied, IsTallyOf};
 
-use crate::tables::{count_cell, wrong_limit};
+use crate::ranges::width_of;
+use crate::tables::{count_cell, new_row, wrong_limit};
 use awari_facts::{Source, read_entry};
 use awari_folder::{Folder, FolderFault};
 use awari_places::Run;
+use awari_queries::Column;
 use awari_rank::size;
-use awari_table::Entry;
-use std::alloc::{AllocError, Global};
-
-/// How many values a byte has.
-const VALUES: usize = 256;
+use awari_table::{Counts, Entry};
+use std::alloc::Global;
 
 /// How many boards have what was counted of them.
 #[derive(Drop)]
 pub(crate) struct Tally {
-    /// Those that are lost, even and won.
-    pub(crate) signs: [u32; 3],
-    /// Those of each value, by its number.
-    pub(crate) values: [u32; VALUES],
+    /// Those that are won, even and lost.
+    pub(crate) counts: Counts,
+    /// Those of each value, by its place.
+    pub(crate) values: Vec<u32>,
     /// Those of each distance up to a limit.
     pub(crate) distances: Vec<u32>,
 }
 
-/// The number of a value among those that a byte has.
+/// The place of a value among those that a byte has.
 fn place_of_value(value: i8) -> usize
-    ensures low { result < VALUES }
+    ensures low { result < 256 }
     ensures value { value ≡ number_at Value result }
 {
     (i16::from(value) + 128) as usize
 }
 
-/// 0 if the value is lost, 1 if it is even, 2 if it is won.
-fn place_of_sign(value: i8) -> usize
-    ensures low { result < 3 }
-    ensures sign { (k : ℕ) → k < 3 → has_sign k value ≡ (result == k) }
-{
-    if value > 0 {
-        return 2;
-    }
-    if value == 0 { 1 } else { 0 }
-}
-
-/// One more at this place.
-fn count(counts: &mut [u32], place: usize)
-    requires inside { place < length counts.old }
-    requires few { slice_index counts.old place < 4294967295 }
-    ensures { counts.new ≡ slice_set counts.old place (slice_index counts.old place + 1) }
-{
-    counts[place] += 1;
-}
-
-/// No board, for distances up to this limit. It takes memory for four bytes a distance.
-fn new_tally(alloc: Global, limit: u32) -> Result<Tally, AllocError>
+/// No board, for distances up to this limit. It takes memory for four bytes a value and a distance, and is
+/// refused as 84 if that is not there.
+fn new_tally(alloc: Global, limit: u32) -> Result<Tally, FolderFault>
     ensures { IfOk result (IsTallyOf limit []) }
 {
-    let distances = vec![in alloc; 0u32; limit as usize + 1]?;
+    let values = new_row(alloc, width_of(Column::Value, limit))?;
+    let distances = new_row(alloc, width_of(Column::Distance, limit))?;
+    let counts = Counts {
+        won: 0,
+        even: 0,
+        lost: 0,
+    };
     Ok(Tally {
-        signs: [0; 3],
-        values: [0; VALUES],
+        counts,
+        values,
         distances,
     })
 }
@@ -79,8 +65,10 @@ fn add(tally: &mut Tally, entry: Entry)
     requires few { (limit : ℕ) × ((entries : List AnEntry) × (IsTallyOf limit entries tally.old × (length entries < 4294967295))) }
     ensures { (limit : ℕ) (entries : List AnEntry) → IsTallyOf limit entries tally.old → IsTallyOf limit (entries ++ entry ∷ []) tally.new }
 {
-    count(&mut tally.signs, place_of_sign(entry.value));
-    count(&mut tally.values, place_of_value(entry.value));
+    tally.counts.won += u32::from(entry.value > 0);
+    tally.counts.even += u32::from(entry.value == 0);
+    tally.counts.lost += u32::from(entry.value < 0);
+    count_cell(&mut tally.values, place_of_value(entry.value));
     count_cell(&mut tally.distances, entry.dist as usize);
 }
 
@@ -102,10 +90,7 @@ pub(crate) fn tally_level<F: Folder>(
     if limit > size(level) {
         return Err(wrong_limit(level));
     }
-    let mut tally = match new_tally(alloc, limit) {
-        Ok(tally) => tally,
-        Err(_) => return Err(FolderFault::Memory),
-    };
+    let mut tally = new_tally(alloc, limit)?;
     let mut run = Run::new();
     for rank in 0..size(level) {
         let entry = read_entry(source, folder, &mut run, level, rank)?;

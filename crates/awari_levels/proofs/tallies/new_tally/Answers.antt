@@ -1,6 +1,11 @@
-use Rattle.std.proofs.Common.{refl, replicate}
-use Rattle.awari_levels.proofs.TallyLaws.{tally-none}
+use Rattle.std.proofs.Common.{arith, refl}
 use Rattle.awari_levels.proofs.tallies.new_tally.Goals as goal
 
 pub returns : goal.returns
-returns c = tally-none c.args.limit (record { signs = replicate 3 0; values = replicate 256 0; distances = c.in_ok-distances.distances }) refl refl (c.in_ok-distances.ensures.items_if_clones_equal (λ y is. is))
+returns c = record {
+  won = refl;
+  even = refl;
+  lost = refl;
+  values = record { long = omega (arith, c.in_ok-values.ensures.long, c.width_of.ensures.width, c.in_ok-values.values.ok.0); each = λ k inside. c.in_ok-values.ensures.zeros k };
+  distances = record { long = omega (arith, c.in_ok-distances.ensures.long, c.width_of-2.ensures.width, c.in_ok-distances.distances.ok.0); each = λ k inside. c.in_ok-distances.ensures.zeros k };
+}
