@@ -4,4 +4,5 @@ mod PlayLaws
 mod PlyLines
 mod Knowing
 mod Names
+mod Refusing
 mod SaidLaws

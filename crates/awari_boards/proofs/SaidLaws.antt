@@ -1,5 +1,5 @@
 -- A service by files that are lent is one by what they say at its beginning.
-use Rattle.std.proofs.Common.{◌≡◌, ℕ, Bool, false, List, [], ◌∷◌, ◌++◌, Option, Result, Ok, Err, OnOk, OnErr, inl, inr, refl, sym, ap, subst, ◌∙◌}
+use Rattle.std.proofs.Common.{◌≡◌, ℕ, Bool, false, List, [], ◌∷◌, ◌++◌, Option, Result, Ok, Err, OnOk, OnErr, inl, inr, refl, sym, ap, subst}
 use Rattle.awari_desk.specs.Service.{Answered, none, more, Served, ended, unended, quits, IsAnswerTo, IsInput, answer_text, HasServed, HasBegun}
 use Rattle.awari_desk.specs.declared.answers.Answer.{Answer}
 use Rattle.awari_desk.specs.declared.answers.Answer.TheVariants.{Found, Moves, Probed, Unprobed, Unanswered, Refused, Seen, Bye, What}

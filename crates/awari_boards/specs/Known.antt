@@ -2,8 +2,7 @@
 use Rattle.std.specs.Prelude.{◌≡◌, ℕ, ◌<◌, Bool, false, true, List, Option, length, min, sum}
 use Rattle.awari_board.specs.Rules.{IsBoard}
 use Rattle.awari_board.specs.Text.{text_of}
-use Rattle.awari_folder.specs.Contents.{AreNames}
-use Rattle.awari_places.specs.Opening.{AreFramed}
+use Rattle.awari_places.specs.Opening.{AreOpenedTo}
 use Rattle.awari_places.specs.Places.{Says}
 use Rattle.awari_places.specs.declared.opening.Opened.{Opened}
 use Rattle.awari_table.specs.declared.TheConstants.{HIGHEST_LEVEL}
@@ -21,7 +20,7 @@ pub record IsRight (stands : ℕ → Option (Option (List ℕ))) (text board : L
 pub record IsOpened (stands : ℕ → Option (Option (List ℕ))) (text board : List ℕ) (opened : Opened) : Type 0 where
   pub whole : IsBoard board
   pub spelled : text ≡ text_of board
-  pub framed : (names : ℕ → Option (List ℕ)) → AreNames stands names → AreFramed (min (sum board) HIGHEST_LEVEL) names opened
+  pub framed : AreOpenedTo (min (sum board) HIGHEST_LEVEL) stands opened
 
 -- The text spells this board, and its level is there. Where it is known what has the names, this holds of what the files say. If they
 -- are right, that is their shelf.

@@ -8,6 +8,7 @@ pub mod Places
 pub mod Playing
 pub mod Plays
 pub mod Plies
+pub mod Refused
 pub mod Said
 pub mod Unsaid
 pub mod Worths

@@ -2,9 +2,8 @@
 use Rattle.std.specs.Prelude.{◌≡◌, ℕ, ◌<◌, ◌≤◌, Bool, List, Option, sum, Result, Ok, Err}
 use Rattle.awari_desk.specs.Answering.{Answering}
 use Rattle.awari_desk.specs.Service.{IsInput, HasServed}
-use Rattle.awari_folder.specs.Contents.{AreNames}
 use Rattle.awari_places.specs.Faults.{IsLookFault, IsRefusedAt}
-use Rattle.awari_places.specs.Opening.{AreFramed}
+use Rattle.awari_places.specs.Opening.{AreOpenedTo}
 use Rattle.awari_places.specs.Places.{Says}
 use Rattle.awari_places.specs.declared.opening.Opened.{Opened}
 use Rattle.awari_play.specs.Worths.{IsWeighed}
@@ -42,5 +41,5 @@ IsServedSaid stands levels input before after = (bytes : List ℕ) × IsInput in
 -- They are those of the folder by their headers, where it is known what has the names.
 pub record PrintsServiceSaid (stands : ℕ → Option (Option (List ℕ))) (input before after : Option (List ℕ)) : Type 0 where
   pub opened : Opened
-  pub framed : (names : ℕ → Option (List ℕ)) → AreNames stands names → AreFramed HIGHEST_LEVEL names opened
+  pub framed : AreOpenedTo HIGHEST_LEVEL stands opened
   pub served : IsServedSaid stands opened.levels input before after

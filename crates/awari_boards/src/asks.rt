@@ -1,14 +1,16 @@
 //! The command `ask`: the entry of a board.
 
-ghost use Rattle.std.specs.Prelude.{◌≡◌, ◌≤◌, ◌↔◌, true, Err, IfOk};
+ghost use Rattle.std.specs.Prelude.{◌≡◌, ◌≤◌, ◌↔◌, false, true, Err, IfErr, IfOk};
 ghost use Rattle.std.specs.Io.KnownBytes.{Appends};
 ghost use Rattle.awari_board.specs.BoardFault.{IsFaulty};
 ghost use Rattle.awari_board.specs.declared.text.BoardFault.{BoardFault};
-ghost use Rattle.awari_folder.specs.Contents.{Same};
+ghost use Rattle.awari_folder.specs.Contents.{Lacks, Same};
+ghost use Rattle.awari_places.specs.Faults.{IsRefusedAt};
 ghost use Rattle.awari_table.specs.Images.{entry_of};
 ghost use Rattle.awari_answers.specs.declared.asked.NoAnswer.TheVariants as no_answer;
 ghost use Rattle.awari_boards.specs.Asks.{PrintsEntry, shown_entry};
 ghost use Rattle.awari_boards.specs.Known.{IsKnown};
+ghost use Rattle.awari_boards.specs.Refused.{IsUnknown};
 
 use crate::opening::{OpenedFor, open_level_of};
 use awari_answers::{Asked, NoAnswer, Remarks, ask_folder, print_bytes, refuse_as, status_of};
@@ -33,6 +35,7 @@ fn look_up<T: Threads + Sync, F: Folder>(
     ensures entry { IfOk result (λ found. IsKnown query.entry.unverified (F.state folder.old).stands query.entry.board.now found.0 (λ images. found.1 ≡ entry_of images found.0)) }
     ensures same { Same (F.state folder.old).stands (F.state folder.new).stands }
     ensures board { (fault : BoardFault) → (result ≡ Err (no_answer.Board fault)) ↔ IsFaulty query.entry.board.now fault }
+    ensures fault { IfErr result (IsUnknown false query.entry.unverified (Lacks (F.state folder.old).refusals (F.state folder.new).refusals) (F.state folder.old).stands query.entry.board.now (λ _. IsRefusedAt (F.state folder.old).stands)) }
 {
     let text = query.board.as_bytes();
     if query.unverified {

@@ -1,13 +1,15 @@
 //! The command `line`: a play in which both sides follow the plans of the levels in a folder, or one
 //! side holds out.
 
-ghost use Rattle.std.specs.Prelude.{◌≡◌, ◌≤◌, ◌↔◌, ◌++◌, ◌∷◌, [], ℕ, List, true, false, Err, IfOk};
+ghost use Rattle.std.specs.Prelude.{◌≡◌, ◌≤◌, ◌↔◌, ◌++◌, ◌∷◌, [], ℕ, List, true, false, Err, IfErr, IfOk};
 ghost use Rattle.std.specs.Io.KnownBytes.{Appends};
 ghost use Rattle.awari_board.specs.BoardFault.{IsFaulty};
 ghost use Rattle.awari_board.specs.declared.text.BoardFault.{BoardFault};
-ghost use Rattle.awari_folder.specs.Contents.{Same};
+ghost use Rattle.awari_folder.specs.Contents.{Lacks, Same};
+ghost use Rattle.awari_places.specs.Faults.{IsPliesFault};
 ghost use Rattle.awari_answers.specs.declared.asked.NoAnswer.TheVariants as no_answer;
 ghost use Rattle.awari_boards.specs.Known.{IsKnown};
+ghost use Rattle.awari_boards.specs.Refused.{IsUnknown};
 ghost use Rattle.awari_boards.specs.Lines.{IsLineOf, PrintsLine, PrintsLineBy, SayLongest, line_json, longest_json, shown_best, shown_longest};
 
 use crate::opening::{OpenedFor, open_level_of};
@@ -98,6 +100,7 @@ fn line_of<T: Threads + Sync, F: Folder>(
     ensures same { Same (F.state folder.old).stands (F.state folder.new).stands }
     ensures line { IfOk result (λ found. IsLineOf query.entry.unverified (F.state folder.old).stands query.entry.board.now found.entry.value found.line.moves.items found.line.outcome) }
     ensures board { (fault : BoardFault) → (result ≡ Err (no_answer.Board fault)) ↔ IsFaulty query.entry.board.now fault }
+    ensures fault { IfErr result (IsUnknown true query.entry.unverified (Lacks (F.state folder.old).refusals (F.state folder.new).refusals) (F.state folder.old).stands query.entry.board.now (λ levels _. IsPliesFault false levels (F.state folder.old).stands)) }
 {
     let text = query.board.as_bytes();
     if query.unverified {
@@ -124,6 +127,7 @@ fn longest_line_of<T: Threads + Sync, F: Folder>(
     ensures same { Same (F.state folder.old).stands (F.state folder.new).stands }
     ensures line { IfOk result (λ found. (board : List ℕ) × IsKnown query.entry.unverified (F.state folder.old).stands query.entry.board.now board (SayLongest board found.entry.value found.entry.dist found.moves.items)) }
     ensures board { (fault : BoardFault) → (result ≡ Err (no_answer.Board fault)) ↔ IsFaulty query.entry.board.now fault }
+    ensures fault { IfErr result (IsUnknown true query.entry.unverified (Lacks (F.state folder.old).refusals (F.state folder.new).refusals) (F.state folder.old).stands query.entry.board.now (λ levels _. IsPliesFault true levels (F.state folder.old).stands)) }
 {
     let text = query.board.as_bytes();
     if query.unverified {

@@ -1,11 +1,12 @@
 //! A board that is asked for, and the levels in a folder up to the board's, which nobody verifies.
 
-ghost use Rattle.std.specs.Prelude.{◌≡◌, ◌≢◌, ◌≤◌, ◌<◌, ◌+◌, ◌↔◌, Err, IfOk, sum};
+ghost use Rattle.std.specs.Prelude.{◌≡◌, ◌≢◌, ◌≤◌, ◌<◌, ◌+◌, ◌↔◌, ◌⊎◌, ℕ, Err, IfErr, IfOk, sum};
 ghost use Rattle.awari_board.specs.BoardFault.{IsFaulty};
 ghost use Rattle.awari_board.specs.declared.text.BoardFault.{BoardFault};
 ghost use Rattle.awari_folder.specs.Contents.{Same};
 ghost use Rattle.awari_table.specs.declared.TheConstants.{HIGHEST_LEVEL};
 ghost use Rattle.awari_boards.specs.Known.{IsOpened};
+ghost use Rattle.awari_boards.specs.Refused.{IsBeyond, IsNotThere, IsUnopenedFor};
 ghost use Rattle.awari_answers.specs.declared.asked.NoAnswer.TheVariants as no_answer;
 
 use awari_answers::NoAnswer;
@@ -29,6 +30,7 @@ pub(crate) fn open_for<F: Folder>(folder: &mut F, text: &[u8]) -> Result<OpenedF
     ensures few { IfOk result (λ found. found.opened.levels ≤ HIGHEST_LEVEL + 1) }
     ensures same { Same (F.state folder.old).stands (F.state folder.new).stands }
     ensures board { (fault : BoardFault) → (result ≡ Err (no_answer.Board fault)) ↔ IsFaulty text.now fault }
+    ensures fault { IfErr result (IsUnopenedFor (F.state folder.old).stands text.now) }
 {
     // Ghost: a text has at most one fault.
     one_board_fault_is_due();
@@ -48,6 +50,7 @@ pub(crate) fn open_level_of<F: Folder>(
     ensures known { IfOk result (λ found. sum found.board < found.opened.levels) }
     ensures same { Same (F.state folder.old).stands (F.state folder.new).stands }
     ensures board { (fault : BoardFault) → (result ≡ Err (no_answer.Board fault)) ↔ IsFaulty text.now fault }
+    ensures fault { IfErr result (λ fault. IsUnopenedFor (F.state folder.old).stands text.now fault ⊎ IsNotThere line (F.state folder.old).stands text.now fault) }
 {
     let found = open_for(folder, text)?;
     let levels = found.opened.levels;
@@ -59,7 +62,8 @@ pub(crate) fn open_level_of<F: Folder>(
 
 /// The refusal of a board whose level is not one of this many.
 fn not_there(levels: u8, line: bool) -> NoAnswer
-    ensures { (fault : BoardFault) → result ≢ no_answer.Board fault }
+    ensures board { (fault : BoardFault) → result ≢ no_answer.Board fault }
+    ensures beyond { (level : ℕ) → levels ≤ level → IsBeyond line levels level result }
 {
     if line {
         return NoAnswer::Line {

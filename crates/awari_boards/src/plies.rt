@@ -1,14 +1,16 @@
 //! The command `line` with `--plies`: a line of play ply by ply.
 
-ghost use Rattle.std.specs.Prelude.{◌≡◌, ◌≤◌, ◌↔◌, ◌++◌, ◌∷◌, [], ℕ, List, true, Err, IfOk, IfSome, length};
+ghost use Rattle.std.specs.Prelude.{◌≡◌, ◌≤◌, ◌↔◌, ◌++◌, ◌∷◌, [], ℕ, List, true, Err, IfErr, IfOk, IfSome, length};
 ghost use Rattle.std.specs.Io.KnownBytes.{Appends};
 ghost use Rattle.awari_board.specs.BoardFault.{IsFaulty};
 ghost use Rattle.awari_board.specs.declared.text.BoardFault.{BoardFault};
-ghost use Rattle.awari_folder.specs.Contents.{Same};
+ghost use Rattle.awari_folder.specs.Contents.{Lacks, Same};
+ghost use Rattle.awari_places.specs.Faults.{IsPliesFault};
 ghost use Rattle.awari_play.specs.Plies.{AreLinePlies};
 ghost use Rattle.awari_answers.specs.declared.asked.NoAnswer.TheVariants as no_answer;
 ghost use Rattle.awari_boards.specs.Known.{IsKnown};
 ghost use Rattle.awari_boards.specs.Lines.{PrintsLineBy};
+ghost use Rattle.awari_boards.specs.Refused.{IsUnknown};
 ghost use Rattle.awari_boards.specs.Plies.{shown_line, shown_plies, shown_ply, shown_repeat};
 
 use crate::opening::{OpenedFor, open_level_of};
@@ -33,6 +35,7 @@ fn plies_of<T: Threads + Sync, F: Folder>(
     ensures plies { IfOk result (λ found. (board : List ℕ) × IsKnown query.entry.unverified (F.state folder.old).stands query.entry.board.now board (λ images. AreLinePlies query.entry.longest images board found.plies.items found.repeat)) }
     ensures within { IfOk result (λ found. IfSome found.repeat (λ r. r.again ≤ length found.plies.items)) }
     ensures board { (fault : BoardFault) → (result ≡ Err (no_answer.Board fault)) ↔ IsFaulty query.entry.board.now fault }
+    ensures fault { IfErr result (IsUnknown true query.entry.unverified (Lacks (F.state folder.old).refusals (F.state folder.new).refusals) (F.state folder.old).stands query.entry.board.now (λ levels _. IsPliesFault query.entry.longest levels (F.state folder.old).stands)) }
 {
     let text = query.board.as_bytes();
     if query.unverified {

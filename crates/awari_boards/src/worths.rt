@@ -1,13 +1,15 @@
 //! The command `moves`: what each legal move of a board is worth.
 
-ghost use Rattle.std.specs.Prelude.{◌≡◌, ◌≤◌, ◌↔◌, true, Err, IfOk};
+ghost use Rattle.std.specs.Prelude.{◌≡◌, ◌≤◌, ◌↔◌, false, true, Err, IfErr, IfOk};
 ghost use Rattle.std.specs.Io.KnownBytes.{Appends};
 ghost use Rattle.awari_board.specs.BoardFault.{IsFaulty};
 ghost use Rattle.awari_board.specs.declared.text.BoardFault.{BoardFault};
-ghost use Rattle.awari_folder.specs.Contents.{Same};
+ghost use Rattle.awari_folder.specs.Contents.{Lacks, Same};
+ghost use Rattle.awari_places.specs.Faults.{IsLookFault};
 ghost use Rattle.awari_play.specs.Worths.{IsWeighed};
 ghost use Rattle.awari_answers.specs.declared.asked.NoAnswer.TheVariants as no_answer;
 ghost use Rattle.awari_boards.specs.Known.{IsKnown};
+ghost use Rattle.awari_boards.specs.Refused.{IsUnknown};
 ghost use Rattle.awari_boards.specs.Worths.{PrintsWorths, shown_worths};
 
 use crate::opening::{OpenedFor, open_level_of};
@@ -32,6 +34,7 @@ fn weigh_board<T: Threads + Sync, F: Folder>(
     ensures weighed { IfOk result (λ found. IsKnown query.entry.unverified (F.state folder.old).stands query.entry.board.now found.0 (λ images. IsWeighed query.entry.replies images found.0 found.1)) }
     ensures same { Same (F.state folder.old).stands (F.state folder.new).stands }
     ensures board { (fault : BoardFault) → (result ≡ Err (no_answer.Board fault)) ↔ IsFaulty query.entry.board.now fault }
+    ensures fault { IfErr result (IsUnknown false query.entry.unverified (Lacks (F.state folder.old).refusals (F.state folder.new).refusals) (F.state folder.old).stands query.entry.board.now (λ levels _. IsLookFault levels (F.state folder.old).stands)) }
 {
     let text = query.board.as_bytes();
     if query.unverified {

@@ -3,10 +3,7 @@ use Rattle.std.specs.Prelude.{◌≡◌, ℕ, ◌<◌, ◌≤◌, List, length, 
 use Rattle.awari_answers.specs.Asked.{AreLevelsTo}
 use Rattle.awari_answers.specs.declared.asked.NoAnswer.{NoAnswer}
 use Rattle.awari_answers.specs.declared.asked.NoAnswer.TheVariants.{Folder, NotYet}
-use Rattle.awari_folder.specs.Contents.{AreNames}
 use Rattle.awari_folder.specs.declared.faults.FolderFault.{FolderFault}
-use Rattle.awari_places.specs.Opening.{AreFramed, IsOpenFault}
-use Rattle.awari_places.specs.declared.opening.Opened.{Opened}
 use Rattle.awari_table.specs.declared.TheConstants.{HIGHEST_LEVEL}
 use Rattle.awari_table.specs.declared.images.Image.{Image}
 
@@ -15,20 +12,9 @@ pub record HasLevel (level : ℕ) (stands : ℕ → Option (Option (List ℕ))) 
   pub levels : AreLevelsTo (min level HIGHEST_LEVEL) stands images
   pub known : level < length images
 
--- the levels up to this one by their headers, where it is known what the names have
-abbrev pub AreOpenedTo : ℕ → (ℕ → Option (Option (List ℕ))) → Opened → Type 0
-AreOpenedTo most stands opened = (names : ℕ → Option (List ℕ)) → AreNames stands names → AreFramed most names opened
-
--- where it is known what the names have, this is the first fault of the headers up to this level's
-abbrev pub IsUnopened : ℕ → (ℕ → Option (Option (List ℕ))) → FolderFault → Type 0
-IsUnopened most stands fault = (names : ℕ → Option (List ℕ)) → AreNames stands names → IsOpenFault most names fault
-
--- how many right levels the folder stores up to this one, or how many levels it has by their headers
+-- how many right levels the folder stores up to this one
 abbrev pub CountsLoaded : ℕ → (ℕ → Option (Option (List ℕ))) → ℕ → Type 0
 CountsLoaded level stands n = (images : List Image) × AreLevelsTo (min level HIGHEST_LEVEL) stands images × (n ≡ length images)
-
-abbrev pub CountsOpened : ℕ → (ℕ → Option (Option (List ℕ))) → ℕ → Type 0
-CountsOpened level stands n = (opened : Opened) × AreOpenedTo (min level HIGHEST_LEVEL) stands opened × (n ≡ opened.levels)
 
 -- the folder is refused, with a fault that is due
 abbrev pub IsNoFolder : (FolderFault → Type 0) → NoAnswer → Type 0

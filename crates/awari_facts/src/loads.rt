@@ -3,7 +3,8 @@
 ghost use Rattle.std.specs.Prelude.{◌≡◌, ◌<◌, ◌≤◌, ◌+◌, IfErr, IfOk, min};
 ghost use Rattle.awari_folder.specs.Contents.{Lacks};
 ghost use Rattle.awari_answers.specs.Asked.{IsUnloaded, OnlyAsks};
-ghost use Rattle.awari_facts.specs.Loads.{AreOpenedTo, CountsLoaded, CountsOpened, HasLevel, IsNoFolder, IsNoLevel, IsUnopened};
+ghost use Rattle.awari_facts.specs.Loads.{CountsLoaded, HasLevel, IsNoFolder, IsNoLevel};
+ghost use Rattle.awari_places.specs.Opening.{AreOpenedTo, CountsOpened, IsUnopened};
 ghost use Rattle.awari_table.specs.declared.TheConstants.{HIGHEST_LEVEL};
 
 use awari_answers::{NoAnswer, load_levels};
