@@ -1,6 +1,5 @@
 -- Why boards of a level are not listed, where no name changed.
-use Rattle.std.proofs.Common.{◌≡◌, ◌≤◌, ℕ, List, Option, inl, inr, sum, subst, arith}
-use Rattle.awari_board.specs.Rules.{IsBoard}
+use Rattle.std.proofs.Common.{◌≡◌, ℕ, List, Option, inl, inr, sum, subst, arith}
 use Rattle.awari_facts.proofs.SourceLaws.{unread_before}
 use Rattle.awari_facts.specs.Sources.{IsUnreadAt, IsUnreadFrom}
 use Rattle.awari_facts.specs.declared.sources.Source.{Source}

@@ -11,7 +11,7 @@ use Rattle.awari_table.specs.Images.{entry_of}
 use Rattle.awari_rank.specs.Rank.{rank_of, size_of}
 use Rattle.awari_table.specs.declared.images.Entry.{Entry}
 use Rattle.awari_table.specs.declared.images.Image.{Image}
-use Rattle.awari_levels.proofs.ChoiceLaws.{is_at, some_at}
+use Rattle.awari_levels.proofs.ChoiceLaws.{some_at}
 
 pub some_entry : (images : List Image) (level rank : ℕ) (e : Entry) → IsEntryAt images level rank e → level ≤ 24 → rank < size_of level → (board : List ℕ) × IsAt images level rank board e
 some_entry images level rank e there low inside =
