@@ -1,14 +1,14 @@
 //! What is told of a refusal: its number, which has a name and a sentence, its fields, and the refusal inside it.
 //! All forms of a refusal are made of this. No call takes memory.
 //!
-//! A fault with one field, as its level, in `crates/awari_faults/src/refusals.rt`:
+//! The sentence of a number, without the zero byte with which C ends a text, in
+//! `crates/awari_faults/src/meanings.rt`:
 //!
-//!     pub fn with_number(number: u8, name: &'static str, value: u128) -> Reason
-//!         ensures { reason_said result ≡ with_number number name.entry.now value }
+//!     pub fn sentence(answer: u8) -> &'static [u8]
+//!         ensures { result.now ≡ sentence answer }
 //!     {
-//!         let value = Value::Number(value);
-//!         let fields = Fields::One(Field { name, value });
-//!         Reason { number, fields }
+//!         let ended = ended_sentence(answer);
+//!         &ended[..ended.len() - 1]
 //!     }
 #![tactic(auto)]
 

@@ -4,15 +4,15 @@
 //! [`push_text`], [`push_number`] and [`push_signed`]. [`read_number`] and [`after_word`] read what
 //! stands at the start of a text.
 //!
-//! A number with a space behind it, in `crates/awari_boards/src/refusals.rt`:
+//! A line with a number at its end, in `crates/awari_streams/src/lines.rt`:
 //!
-//!     fn push_number_of(line: &mut TextLine, number: u8)
-//!         requires { array_vec_len line.old ≤ 40 }
-//!         ensures items { line.new.items ≡ line.old.items ++ (decimal number ++ codes " ") }
-//!         ensures len { array_vec_len line.new ≤ array_vec_len line.old + 4 }
+//!     pub fn numbered_line(text: &[u8], number: u8) -> TextLine
+//!         requires { length text.now ≤ 76 }
+//!         ensures { result.items ≡ text.now ++ decimal number ++ 10 ∷ [] }
 //!     {
-//!         push_number(line, u64::from(number));
-//!         push_text(line, b" ");
+//!         let mut line = numbered(text, number);
+//!         line.push(b'\n');
+//!         line
 //!     }
 #![tactic(auto)]
 
