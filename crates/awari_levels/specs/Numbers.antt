@@ -4,11 +4,11 @@ use Rattle.awari_answers.specs.Asked.{AreLevelsTo, IsUnloaded}
 use Rattle.awari_answers.specs.LevelLines.{IsToldOf}
 use Rattle.awari_answers.specs.declared.asked.NoAnswer.{NoAnswer}
 use Rattle.awari_folder.specs.Contents.{AreNames}
-use Rattle.awari_places.specs.Opening.{AreFramed}
+use Rattle.awari_places.specs.Opening.{AreFramed, CountsOpened, IsUnopened}
 use Rattle.awari_places.specs.declared.opening.Opened.{Opened}
 use Rattle.awari_table.specs.declared.TheConstants.{HIGHEST_LEVEL}
 use Rattle.awari_table.specs.declared.images.Image.{Image}
-use Rattle.awari_facts.specs.Loads.{CountsLoaded, CountsOpened, HasLevel, IsNoFolder, IsNoLevel, IsUnopened}
+use Rattle.awari_facts.specs.Loads.{CountsLoaded, HasLevel, IsNoFolder, IsNoLevel}
 use Rattle.awari_levels.specs.Tallies.{IsTallyOf}
 use Rattle.awari_levels.specs.declared.counts.Numbers.{Numbers}
 
