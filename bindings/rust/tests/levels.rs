@@ -29,7 +29,7 @@ fn each_board_is_worth_its_best_move() {
     let levels = Levels::open(examples()).unwrap();
     for level in 0..levels.len() as u8 {
         let boards: Vec<_> = (0..Board::count(level)).map(|rank| Board::of_rank(level, rank).unwrap()).collect();
-        let entries = levels.entries(&boards).unwrap();
+        let entries = levels.many(&boards).unwrap();
         for (board, entry) in boards.iter().zip(entries) {
             assert_eq!(levels.entry(board), Ok(entry));
             assert_eq!(levels.value(board), Ok(entry.value));
