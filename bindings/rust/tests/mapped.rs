@@ -235,6 +235,18 @@ fn a_folder_ends_at_the_first_level_that_is_not_there() {
 }
 
 #[test]
+fn a_folder_ends_at_level_24() {
+    let folder = folder_below("full", 0);
+    for level in 0..=25 {
+        fs::write(folder.join(name_of(level)), b"").unwrap();
+    }
+    assert_eq!(open(&folder).unwrap().len(), 25);
+    assert_eq!(open_to(&folder, u8::MAX).unwrap().len(), 25);
+    assert_eq!(open_to(&folder, 0).unwrap().len(), 1);
+    fs::remove_dir_all(folder).unwrap();
+}
+
+#[test]
 fn a_file_that_is_not_mapped_is_refused() {
     let folder = folder_below("system", 2);
     // The system shows this as a file, and maps it for nobody.
