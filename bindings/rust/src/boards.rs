@@ -56,7 +56,8 @@ impl Board {
         Ok(Board { pits })
     }
 
-    /// The boards of a level, by rank; none if it is above 24. Takes no memory.
+    /// The boards of a level, by rank; none if it is above 24. For a part of a level, map its ranks by
+    /// [`Board::of_rank`]. Takes no memory.
     ///
     /// ```
     /// # use awari::Board;

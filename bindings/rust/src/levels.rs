@@ -39,7 +39,7 @@ pub struct Move {
 /// The levels of a folder, each verified: level 0 up to the first whose file is not there. So what they say
 /// is right.
 ///
-/// Threads may ask one value at once; then they wait for each other. [`Levels::share`] gives each thread
+/// Threads may ask one `Levels` at once; then they wait for each other. [`Levels::share`] gives each thread
 /// one of its own over the same levels, and then none waits.
 ///
 /// ```

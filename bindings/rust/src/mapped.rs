@@ -18,7 +18,7 @@ use std::path::Path;
 /// It opens at once, and takes no memory for levels. Nothing is verified. What it says is the truth if
 /// `awari verify` says yes to these files, or if [`Mapped::check`] does for a digest that you trust.
 ///
-/// Any number of threads may ask one value at once, and none waits for another.
+/// Any number of threads may ask one `Mapped` at once, and none waits for another.
 ///
 /// ```
 /// use awari::{Board, Mapped, Move, Refusal};
@@ -116,15 +116,19 @@ impl<Bytes: AsRef<[u8]>> Mapped<Bytes> {
         self.entry(board).map(|entry| entry.value)
     }
 
-    /// What the files say of many boards, in order. Refused as the first board is that is refused. It takes
-    /// twelve bytes a board at most.
+    /// What the files say of many boards, in order. The first board that [`Mapped::entry`] refuses is refused as
+    /// it is there. It takes eight bytes a board.
     pub fn many(&self, boards: &[Board]) -> Result<Vec<Entry>, Refusal> {
-        boards.iter().map(|board| self.entry(board)).collect()
+        let mut found = Vec::with_capacity(boards.len());
+        for board in boards {
+            found.push(self.entry(board)?);
+        }
+        Ok(found)
     }
 
     /// What each legal pit is worth, ascending; none if the play has ended. Refused as 59 if the board's level
-    /// is not there. Refused as 20, 60 or 67 if the first file up to that level which is not as long as it
-    /// should be is so. It takes no memory but for what it gives.
+    /// is not there. Of the files up to that level, the first that is not as long as it should be is refused as
+    /// 20, 60 or 67. It takes no memory but for what it gives.
     pub fn moves(&self, board: &Board) -> Result<Vec<Move>, Refusal> {
         // The library's promise rests on each file that it is given, so it is given none above the board's level.
         let count = self.len().min(usize::from(board.stones()) + 1);
@@ -164,8 +168,9 @@ impl<Bytes: AsRef<[u8]>> Mapped<Bytes> {
     /// Form and digests are judged, and not the entries. So the levels are as right as those of whoever publishes
     /// the digest.
     ///
-    /// Refused as 59 if there is no level, and as 80, 81 or 86 if a file is at fault. It reads all bytes. It
-    /// takes three bytes a board for the time of the call, and is refused as 84 if there is no room.
+    /// Refused as 59 if there is no level, and as 80, 81 or 86 if a file is at fault. It reads all bytes, one
+    /// file after the other. For that time it takes three bytes for each board of the file's level. If memory
+    /// runs out, it is refused as 84.
     pub fn check(&self, digest: &str) -> Result<bool, Refusal> {
         if self.is_empty() {
             return Err(Refusal::NotYet);

@@ -84,7 +84,7 @@ fn files_say_what_verified_levels_say() {
 fn may_be_shared<T: Send + Sync>() {}
 
 #[test]
-fn eight_threads_ask_one_value() {
+fn eight_threads_ask_at_once() {
     may_be_shared::<Mapped>();
     may_be_shared::<Map>();
     may_be_shared::<Mapped<Vec<u8>>>();
