@@ -4,6 +4,7 @@ mod common;
 
 use awari::{Board, Levels, Refusal};
 use common::{bytes_of, examples, expect_files_alone, folder_below, name_of};
+use std::os::unix::fs::symlink;
 use std::{fs, thread};
 
 #[test]
@@ -60,6 +61,15 @@ fn wrong_files_are_refused() {
     assert_eq!(refusal, Some(Refusal::File { level: 2, inner: 60 }));
     assert_eq!(Levels::open_to(&folder, 1).unwrap().len(), 2);
     assert_eq!(refusal.unwrap().to_string(), format!("level 2: {}", Refusal::Truncated.sentence()));
+    fs::remove_dir_all(folder).unwrap();
+}
+
+#[test]
+fn a_file_that_is_not_read_is_refused() {
+    let folder = folder_below("unread", 2);
+    // The system shows this as a file, and has nothing to read at its beginning.
+    symlink("/proc/self/mem", folder.join(name_of(2))).unwrap();
+    assert_eq!(Levels::open(&folder).err(), Some(Refusal::File { level: 2, inner: 68 }));
     fs::remove_dir_all(folder).unwrap();
 }
 

@@ -271,14 +271,14 @@ fn open_in(folder: &Path) -> usize {
 
 #[test]
 fn files_are_given_back() {
-    let folder = folder_below("kept", 3);
+    let folder = folder_below("kept", 7);
     let files = open(&folder).unwrap();
-    assert_eq!(mapped_of(&folder), HashSet::from([0, 1, 2].map(name_of)));
+    assert_eq!(mapped_of(&folder), (0..7).map(name_of).collect());
     assert_eq!(open_in(&folder), 0);
     drop(files);
     assert_eq!(mapped_of(&folder), HashSet::new());
-    symlink(name_of(3), folder.join(name_of(3))).unwrap();
-    assert_eq!(open(&folder).err(), Some(Refusal::Open { level: 3 }));
+    symlink(name_of(7), folder.join(name_of(7))).unwrap();
+    assert_eq!(open(&folder).err(), Some(Refusal::Open { level: 7 }));
     assert_eq!((mapped_of(&folder), open_in(&folder)), (HashSet::new(), 0));
     fs::remove_dir_all(folder).unwrap();
 }
