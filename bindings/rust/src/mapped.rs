@@ -177,7 +177,7 @@ impl<Bytes: AsRef<[u8]>> Mapped<Bytes> {
         }
         let mut files = (0..).zip(&self.files);
         let last = files.try_fold([0; 32], |below, (level, file)| digest_over(&below, level, file.as_ref()))?;
-        Ok(last.map(|byte| format!("{byte:02x}")).concat() == digest.to_lowercase())
+        Ok(last.map(|byte| format!("{byte:02x}")).concat().eq_ignore_ascii_case(digest))
     }
 
     /// The bytes of a level's file. Refused as 59.
