@@ -8,8 +8,10 @@
 #include <stdio.h>
 #include <stdlib.h>
 #include <string.h>
+#include <unistd.h>
 
-enum { ROOM = 4096 };
+/* A call that waits for ever ends the test. */
+enum { ROOM = 4096, PATIENCE = 300 };
 
 static awari_handle handle = AWARI_CLOSED;
 static awari_files files;
@@ -158,7 +160,14 @@ static void tell_entry(void) {
     } else
         entry = filed;
     if (refused(answer, NULL)) return;
-    say(entry.plan == AWARI_NO_PLAN ? "%d - %u" : "%d %3$d %2$u", entry.value, entry.distance, entry.plan);
+    say("%d ", entry.value);
+    say(entry.plan == AWARI_NO_PLAN ? "-" : "%d", entry.plan);
+    say(" %u", entry.distance);
+}
+
+static bool are_alike(const awari_move *one, const awari_move *other) {
+    return one->legal == other->legal && one->captures == other->captures && one->value == other->value &&
+           one->distance == other->distance;
 }
 
 static void tell_moves(void) {
@@ -176,8 +185,8 @@ static void tell_moves(void) {
     const char *mark = "";
     const awari_move *first = is_verified ? moves : filed, *other = is_mapped ? filed : moves;
     for (int pit = 0; pit < 6; pit++) {
-        const awari_move *one = &first[pit], *two = &other[pit];
-        agree(one->legal == two->legal && one->captures == two->captures && one->value == two->value && one->distance == two->distance, "a file");
+        const awari_move *one = &first[pit];
+        agree(are_alike(one, &other[pit]), "a file");
         if (!one->legal) continue;
         say("%s%d %d %d %u", mark, pit, one->captures, one->value, one->distance);
         mark = "; ";
@@ -312,6 +321,7 @@ int main(int argc, char **argv) {
     char row[ROOM];
     int found[3] = {0, 0, 0};
     if (argc != 3) return 2;
+    alarm(PATIENCE);
     FILE *rows = fopen(argv[1], "r");
     room = argv[2];
     while (rows && fgets(row, sizeof row, rows)) {
