@@ -1,0 +1,10 @@
+mod Built
+mod FileMoves
+mod Handling
+mod Mapping
+mod Numbers
+mod Runs
+mod Sides
+mod Sixes
+mod Slices
+mod Values
