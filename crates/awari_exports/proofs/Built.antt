@@ -1,17 +1,16 @@
 -- A level that was built and written, and is put on top.
-use Rattle.std.proofs.Common.{◌≡◌, ℕ, ◌*◌, List, [], ◌∷◌, ◌++◌, length, refl, sym, ap, subst, ◌∙◌, arith}
+use Rattle.std.proofs.Common.{◌≡◌, ℕ, List, [], ◌∷◌, ◌++◌, length, sym, ap, subst, ◌∙◌, arith}
 use Rattle.std.specs.List.{flat_map}
 use Rattle.std.proofs.lemmas.List.{length-append}
-use Rattle.std.proofs.lemmas.List.Concat.{flat_map-cons}
 use Rattle.sha2.proofs.Facts256.{length-sha256}
 use Rattle.sha2.specs.Sha256.{sha256}
 use Rattle.awari_rank.specs.Rank.{size_of}
 use Rattle.awari_table.specs.Shelves.{Consistent}
-use Rattle.awari_table.specs.declared.images.Entry.{Entry}
 use Rattle.awari_table.specs.declared.images.Image.{Image}
 use Rattle.awari_file.specs.FileText.{HasFile, body_text, entry_text, file_len, file_text, header_text}
 use Rattle.awari_folder.specs.NextFile.{IsNextFile}
 use Rattle.awari_folder.proofs.Saved.{next_file}
+use Rattle.awari_exports.proofs.Mapping.{entries_len, header_len}
 
 -- its file is the next one
 pub built : (shelf : List Image) (below digest bytes file : List ℕ) (image pushed : Image) (after : List Image) → Consistent shelf image → HasFile 2 image below
@@ -21,13 +20,6 @@ built shelf below digest bytes file image pushed after right has text same ends 
     subst (λ (f : List ℕ). IsNextFile shelf below f after digest) (sym (same ∙ text))
     (subst (λ (s : List Image). IsNextFile shelf below (file_text 2 image below) s digest) (sym (top ∙ ap (λ (i : Image). shelf ++ i ∷ []) is))
     (subst (λ (d : List ℕ). IsNextFile shelf below (file_text 2 image below) (shelf ++ image ∷ []) d) (sym ends) (next_file shelf below image right has)))
-
-entries_len : (es : List Entry) → length (flat_map entry_text es) ≡ 6 * length es
-entries_len [] = refl
-entries_len (e ∷ es) = omega (arith, ap (λ (x : List ℕ). length x) (flat_map-cons entry_text e es), length-append (entry_text e) (flat_map entry_text es), entries_len es)
-
-header_len : (version level limit : ℕ) (below : List ℕ) → length below ≡ 32 → length (header_text version level limit below) ≡ 52
-header_len version level limit below whole = omega (arith, whole)
 
 -- the file of a level is as long as those of its number
 pub long_as_file : (shelf : List Image) (image : Image) (below : List ℕ) → Consistent shelf image → HasFile 2 image below

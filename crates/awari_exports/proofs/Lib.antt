@@ -4,7 +4,6 @@ mod Handling
 mod Mapping
 mod Numbers
 mod Runs
-mod Sides
 mod Sixes
 mod Slices
 mod Values

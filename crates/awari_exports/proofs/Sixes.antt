@@ -1,5 +1,5 @@
 -- What holds of each of six, by its place.
-use Rattle.std.proofs.Common.{◌≡◌, ℕ, zero, suc, ◌<◌, List, [], ◌∷◌, arith}
+use Rattle.std.proofs.Common.{ℕ, zero, suc, ◌<◌, [], ◌∷◌, arith}
 use Rattle.std.specs.Prelude.{slice_index_or}
 
 pub six : {X : Type 0} (P : ℕ → X → Type 0) (a b c d e f : X) → P 0 a → P 1 b → P 2 c → P 3 d → P 4 e → P 5 f

@@ -161,7 +161,7 @@ pub extern "C" fn awari_probe_moves(
         return NOT_YET;
     }
     shelves_tell_the_truth();
-    let moves = moves_in(&held, &board);
+    let moves = told_moves(held.shelf(), &board);
     put(handle, held);
     *out = moves;
     0
@@ -194,14 +194,6 @@ pub extern "C" fn awari_counts(
     *out = told_counts(held.shelf(), level);
     put(handle, held);
     0
-}
-
-/// What the pits of a board are worth. Condition: the board's level is there.
-fn moves_in(held: &Held, board: &Board) -> [PlainMove; 6]
-    requires known { sum board.now < length held.now.stored.shelf }
-    ensures { (pit : ℕ) (d : AMove) → pit < 6 → TellsMove (table_of held.now.stored.shelf) board.now pit (slice_index_or result pit d) }
-{
-    told_moves(held.shelf(), board)
 }
 
 /// Lets `to` have the levels of `from` too, with no copy of them, and answers 0; or 84 if memory runs

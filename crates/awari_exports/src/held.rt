@@ -92,7 +92,7 @@ impl Held {
         Ok(())
     }
 
-    /// The same levels once more, with none begun. None if an Arc has no room for one more.
+    /// The same levels once more, with none begun; none if the `Arc` of a level can't be shared. It takes no memory.
     pub(crate) fn share(&self) -> Option<Held>
         ensures stored { IfSome result (λ held. held.stored ≡ self.now.stored) }
         ensures none { IfSome result (λ held. held.draft ≡ None) }

@@ -1,8 +1,5 @@
-use Rattle.std.proofs.Common.{ap, sym, subst, ◌∙◌}
-use Rattle.std.specs.Prelude.{Option}
-use Rattle.awari_table.specs.Images.{table_of}
-use Rattle.awari_segments.specs.Slices.{SlicedView}
-use Rattle.awari_exports.specs.Held.{HeldView, IsBegun, IfBegun}
+use Rattle.std.proofs.Common.{ap, ◌∙◌}
+use Rattle.awari_exports.specs.Held.{HeldView}
 use Rattle.awari_exports.proofs.Slices.{spread_one}
 use Rattle.awari_exports.proofs.held.Held.spread.Goals as goal
 
