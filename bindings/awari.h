@@ -210,7 +210,7 @@ typedef struct {
 uint8_t awari_begin(awari_handle *handle);
 
 /* Builds a slice: spreads about this many boards of one distance, or opens the next gain: 0, 59 if no level was
- * begun, or 53, and the level is lost. A slice of 100,000 takes some 50 milliseconds. */
+ * begun, or 53, and the level is lost. A slice of 100,000 takes some 20 milliseconds. */
 uint8_t awari_spread(awari_handle *handle, size_t boards, awari_draft *out);
 
 /* How many bytes the file of a level has. */
