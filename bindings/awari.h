@@ -205,8 +205,8 @@ typedef struct {
     bool settled;    /* whether all gains are closed */
 } awari_draft;
 
-/* Begins the next level, in place of one that was begun: 0, 51, or 53 if memory runs out. It takes nine bytes
- * a board. */
+/* Begins the next level, level 0 first, in place of one that was begun: 0, 51, or 53 if memory runs out. It takes
+ * nine bytes a board. */
 uint8_t awari_begin(awari_handle *handle);
 
 /* Builds a slice: spreads about this many boards of one distance, or opens the next gain: 0, 59 if no level was
