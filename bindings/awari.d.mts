@@ -44,10 +44,17 @@ export class Levels {
   finish(): Uint8Array;
   build(): Uint8Array;
   entry(board: Board): Entry;
+  value(board: Board): number;
+  probeMany(boards: Board[]): Entry[];
   moves(board: Board): Move[];
   line(board: Board): { moves: number[]; outcome: number };
   longestLine(board: Board): number[];
   counts(level: number): { won: number; even: number; lost: number; limit: number };
+  entryIn(file: ArrayBufferLike | ArrayBufferView, board: Board): Entry;
+  movesIn(files: (ArrayBufferLike | ArrayBufferView)[], board: Board): Move[];
+  check(file: ArrayBufferLike | ArrayBufferView, below: ArrayBufferLike | ArrayBufferView): Uint8Array;
+  /** What a number that was answered means, for a person. */
+  sentence(number: number): string;
   play(board: Board, pit: number): { board: number[]; captures: number };
   rank(board: Board): { level: number; rank: number };
   board(level: number, rank: number): number[];

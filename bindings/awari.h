@@ -1,6 +1,9 @@
 /* Awari's endgame levels in a program. Link with libawari.a or libawari.so, which `bindings/make` builds. This
  * header is for C99 and C++11, and later.
  *
+ * What an engine calls: awari_open once, awari_share for each thread, awari_probe_value in the search,
+ * awari_probe_moves at the root, and awari_close. The module for pages has all calls but those under "Folders".
+ *
  * A call answers AWARI_OK, which is 0, or why it refuses. After a refusal nothing has changed but what is
  * said here. A board is the stones of its twelve pits, the mover's six first. A pit is 0 to 5.
  *
@@ -50,6 +53,8 @@ enum {
     AWARI_WRONG_LEVEL = 20,
     AWARI_WRONG_SIZE = 21,
     AWARI_REFUSED = 22, /* a board breaks a rule */
+    AWARI_TOO_HIGH = 51, /* all levels are there */
+    AWARI_MEMORY_OF_LEVEL = 53,
     AWARI_NOT_YET = 59, /* the board's level is not there */
     AWARI_TRUNCATED = 60,
     AWARI_MAGIC = 61,
@@ -60,6 +65,7 @@ enum {
     AWARI_DIGEST = 66,
     AWARI_TRAILING = 67,
     AWARI_READ = 68,
+    AWARI_WRITE = 70,
     AWARI_BELOW = 80,
     AWARI_FILE = 81,
     AWARI_OPEN = 82,
@@ -138,7 +144,7 @@ typedef struct {
 
 /* Puts the next level on, level 0 first, if these bytes are its file and it is right. Else 80, 81, 83, 84
  * or 86, with more in `fault`; a closed handle is still closed then. It takes three bytes a board. The
- * caller's bytes are free afterwards. */
+ * caller's bytes are free afterwards. A level that was begun is given up. */
 uint8_t awari_add_level(awari_handle *handle, const uint8_t *bytes, size_t len, awari_fault *fault);
 
 /* How many levels there are. */
@@ -164,8 +170,21 @@ uint8_t awari_probe_many(awari_handle *handle, const uint8_t *boards, size_t cou
  * of the call. */
 uint8_t awari_line(awari_handle *handle, const uint8_t pits[12], uint8_t *out, size_t room, size_t *moves);
 
+/* The play in which the side that gains goes by its plans, and the other holds out as long as it can: as many
+ * moves as the distance. It answers, writes and takes memory as awari_line does. */
+uint8_t awari_longest_line(awari_handle *handle, const uint8_t pits[12], uint8_t *out, size_t room, size_t *moves);
+
+/* What the boards of a level are for the mover. */
+typedef struct {
+    uint32_t won, even, lost; /* how many boards */
+    uint32_t limit;           /* the greatest distance */
+} awari_level_counts;
+
+/* What the boards of a level come to: 0, or 59 if it is not there. Takes no memory. */
+uint8_t awari_counts(awari_handle *handle, uint8_t level, awari_level_counts *out);
+
 /* Lets `to` have the levels of `from` too; no level is copied: 0, or 84 and `to` is closed. What `to` had
- * before is given back. The two are apart. */
+ * before is given back. A level that was begun stays with `from`. The two are apart. */
 uint8_t awari_share_with(awari_handle *from, awari_handle *to);
 
 /* The same, and nothing if the two are one. */
@@ -173,8 +192,34 @@ static inline uint8_t awari_share(awari_handle *from, awari_handle *to) {
     return from == to ? (uint8_t)AWARI_OK : awari_share_with(from, to);
 }
 
-/* Gives the levels back, if no other handle has them. The handle is closed then, and may be used anew. */
+/* Gives the levels back, if no other handle has them, and a level that was begun. The handle is closed then, and
+ * may be used anew. */
 void awari_close(awari_handle *handle);
+
+/* ---- The next level, built a slice at a time: it is right, and has the lowest plans. Meanwhile the others answer */
+
+/* How far it is. */
+typedef struct {
+    uint64_t boards; /* how many are settled and were spread */
+    uint8_t gain;    /* that is open; one more than the level if none was opened yet */
+    bool settled;    /* whether all gains are closed */
+} awari_draft;
+
+/* Begins the next level, level 0 first, in place of one that was begun: 0, 51, or 53 if memory runs out. It takes
+ * nine bytes a board. */
+uint8_t awari_begin(awari_handle *handle);
+
+/* Builds a slice: spreads about this many boards of one distance, or opens the next gain: 0, 59 if no level was
+ * begun, or 53, and the level is lost. A slice of 100,000 takes some 20 milliseconds. */
+uint8_t awari_spread(awari_handle *handle, size_t boards, awari_draft *out);
+
+/* How many bytes the file of a level has. */
+static inline size_t awari_file_len(uint8_t level) { return 84 + 6 * (size_t)awari_size(level); }
+
+/* Puts the level that was begun on, and writes its file: 0; 59 if none was begun or not all its gains are closed;
+ * 70 if `len` is another length; or 53, and the level is lost. It takes three bytes a board, and a copy of the
+ * file for the time of the call. */
+uint8_t awari_finish(awari_handle *handle, uint8_t *file, size_t len);
 
 /* ---- The bytes of files, where they lie, as mapped: what they say is the truth if they were verified */
 
@@ -232,5 +277,7 @@ AWARI_IS(offsetof(awari_move, distance) == 4);
 AWARI_IS(sizeof(awari_fault) == 8 && offsetof(awari_fault, inner) == 1 && offsetof(awari_fault, rule) == 2);
 AWARI_IS(offsetof(awari_fault, rank) == 4);
 AWARI_IS(sizeof(awari_file) == 16 && sizeof(awari_sentence) == 16);
+AWARI_IS(sizeof(awari_draft) == 16 && offsetof(awari_draft, gain) == 8 && offsetof(awari_draft, settled) == 9);
+AWARI_IS(sizeof(awari_level_counts) == 16 && offsetof(awari_level_counts, limit) == 12);
 #undef AWARI_IS
 #endif

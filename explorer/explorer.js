@@ -26,8 +26,12 @@ const PITS = 12;
 const HIGHEST_LEVEL = 24;
 const NO_PLAN = 255;
 const HANDLE_BYTES = 16;
+const ENTRY_BYTES = 8;
 const MOVE_BYTES = 8;
-/** Room for what a call writes, six moves or less. */
+const DIGEST_BYTES = 32;
+/** A file of `awari.h`: its place and its length. */
+const FILE_BYTES = 16;
+/** Room for what a call writes, two digests or less. */
 const OUT_BYTES = 64;
 /** A slice of this many boards takes some 50 milliseconds. */
 const SLICE = 100_000;
@@ -59,6 +63,12 @@ class Refused extends Error {
 
 function expect(answer) {
   if (answer !== 0) throw new Refused(answer);
+}
+
+/** The entry that lies there. */
+function entryAt(view, at) {
+  const plan = view.getUint8(at + 1);
+  return { value: view.getInt8(at), plan: plan === NO_PLAN ? null : plan, distance: view.getUint32(at + 4, true) };
 }
 
 /** The bytes of a buffer or of a view of one, where they lie. */
@@ -176,8 +186,37 @@ class Levels {
    */
   entry(board) {
     expect(this.#calls.awari_probe(this.#handle, this.#board(board), this.#out));
-    const told = this.#view(8), plan = told.getUint8(1);
-    return { value: told.getInt8(0), plan: plan === NO_PLAN ? null : plan, distance: told.getUint32(4, true) };
+    return entryAt(this.#view(ENTRY_BYTES), 0);
+  }
+
+  /**
+   * The value of a board alone, which is less to read. It is refused as `entry` is.
+   * @param {Board} board
+   * @returns {number}
+   */
+  value(board) {
+    expect(this.#calls.awari_probe_value(this.#handle, this.#board(board), this.#out));
+    return this.#view(1).getInt8(0);
+  }
+
+  /**
+   * What the levels say of many boards, in one call. It is refused as `entry` is of the first that is refused.
+   * @param {Board[]} boards
+   * @returns {Entry[]}
+   */
+  probeMany(boards) {
+    const count = boards.length, place = this.#room((PITS + ENTRY_BYTES) * count), entries = place + BigInt(PITS * count);
+    try {
+      boards.forEach((board, at) => {
+        const pits = this.#bytes(this.#board(board), PITS);
+        this.#bytes(place + BigInt(PITS * at), PITS).set(pits);
+      });
+      expect(this.#calls.awari_probe_many(this.#handle, place, BigInt(count), entries, BigInt(count), this.#out));
+      const told = new DataView(this.#calls.memory.buffer, Number(entries), ENTRY_BYTES * count);
+      return boards.map((_, at) => entryAt(told, ENTRY_BYTES * at));
+    } finally {
+      this.#calls.page_free(place);
+    }
   }
 
   /**
@@ -187,11 +226,7 @@ class Levels {
    */
   moves(board) {
     expect(this.#calls.awari_probe_moves(this.#handle, this.#board(board), this.#out));
-    const told = this.#view(6 * MOVE_BYTES);
-    return [0, 1, 2, 3, 4, 5].map(pit => ({ pit, at: MOVE_BYTES * pit })).filter(({ at }) => told.getUint8(at))
-      .map(({ pit, at }) => ({
-        pit, captures: told.getUint8(at + 1), value: told.getInt16(at + 2, true), distance: told.getUint32(at + 4, true),
-      }));
+    return this.#legalMoves();
   }
 
   /**
@@ -225,6 +260,59 @@ class Levels {
     const told = this.#view(16);
     const [won, even, lost, limit] = [0, 4, 8, 12].map(at => told.getUint32(at, true));
     return { won, even, lost, limit };
+  }
+
+  /**
+   * What the file of a board's level says of it. Nothing is verified: it is right if these bytes were. It is refused
+   * as 1 to 3, as 59 for more than 24 stones, and as 20, 60 or 67 if the file of that level has another length.
+   * @param {ArrayBufferLike | ArrayBufferView} file
+   * @param {Board} board
+   * @returns {Entry}
+   */
+  entryIn(file, board) {
+    const pits = this.#board(board);
+    expect(this.#lend(bytesOf(file), (place, length) => this.#calls.awari_probe_file(place, length, pits, this.#out)));
+    return entryAt(this.#view(ENTRY_BYTES), 0);
+  }
+
+  /**
+   * What each legal pit is worth by the files of levels 0, 1 and so on. It is refused as `entryIn` is, of the first
+   * file up to the board's level that has another length.
+   * @param {(ArrayBufferLike | ArrayBufferView)[]} files
+   * @param {Board} board
+   * @returns {Move[]}
+   */
+  movesIn(files, board) {
+    const pits = this.#board(board), table = this.#room(FILE_BYTES * files.length);
+    try {
+      expect(this.#lendAll(files, table, () =>
+        this.#calls.awari_probe_moves_files(table, BigInt(files.length), pits, this.#out)));
+      return this.#legalMoves();
+    } finally {
+      this.#calls.page_free(table);
+    }
+  }
+
+  /**
+   * Whether these bytes are a level's file over the one that ends in the digest `below`, 32 zeros for level 0. Form,
+   * digest and chain are judged, and not the entries. It is refused as 60 to 67, 80, 84 or 86.
+   * @param {ArrayBufferLike | ArrayBufferView} file
+   * @param {ArrayBufferLike | ArrayBufferView} below
+   * @returns {Uint8Array} the digest in which they end
+   */
+  check(file, below) {
+    const given = bytesOf(below), digest = this.#out + BigInt(DIGEST_BYTES);
+    if (given.length !== DIGEST_BYTES) throw new TypeError(`A digest has ${DIGEST_BYTES} bytes, and this has ${given.length}`);
+    this.#bytes(this.#out, DIGEST_BYTES).set(given);
+    expect(this.#lend(bytesOf(file), (place, length) => this.#calls.awari_check_file(place, length, this.#out, digest)));
+    return this.#bytes(digest, DIGEST_BYTES).slice();
+  }
+
+  /** The sentence for a person that belongs to a number that was answered. Every number has one. */
+  sentence(number) {
+    this.#calls.awari_text_of(number & 255, this.#out);
+    const told = this.#view(16), [place, length] = [0, 8].map(at => Number(told.getBigUint64(at, true)));
+    return new TextDecoder().decode(this.#bytes(place, length - 1));
   }
 
   /**
@@ -267,6 +355,15 @@ class Levels {
     this.#calls.awari_close(this.#handle);
   }
 
+  /** The moves that a call told, without the pits that can't be played. */
+  #legalMoves() {
+    const told = this.#view(6 * MOVE_BYTES);
+    return [0, 1, 2, 3, 4, 5].map(pit => ({ pit, at: MOVE_BYTES * pit })).filter(({ at }) => told.getUint8(at))
+      .map(({ pit, at }) => ({
+        pit, captures: told.getUint8(at + 1), value: told.getInt16(at + 2, true), distance: told.getUint32(at + 4, true),
+      }));
+  }
+
   /** The pits of a line. It is asked for again where it has more moves than there was room for. */
   #moves(board, lineOf) {
     for (let room = 1024; ; ) {
@@ -306,6 +403,17 @@ class Levels {
     } finally {
       this.#calls.page_free(place);
     }
+  }
+
+  /** Calls with files that lie in the module's memory meanwhile, each with its place and its length in the table. */
+  #lendAll(files, table, call, at = 0) {
+    if (at === files.length) return call();
+    return this.#lend(bytesOf(files[at]), (place, length) => {
+      const told = new DataView(this.#calls.memory.buffer, Number(table) + FILE_BYTES * at, FILE_BYTES);
+      told.setBigUint64(0, place, true);
+      told.setBigUint64(8, length, true);
+      return this.#lendAll(files, table, call, at + 1);
+    });
   }
 
   #room(bytes) {

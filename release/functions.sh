@@ -148,8 +148,8 @@ build_in() { build_crate "$1" awari run -- check; }
 
 # proves the library in this copy of the repository, and links it into a folder
 build_library_in() {
-  build_crate "$1" awari_c lib
-  link_library "$1/crates/awari_c/out/libawari_c.a" "$2"
+  build_crate "$1" awari_exports lib
+  link_library "$1/crates/awari_exports/out/libawari_exports.a" "$2"
 }
 
 # Builds a static library of a crate by this toolchain, over the crates that a gate has just built in this copy.
@@ -177,8 +177,8 @@ build_gated() {
 
 # the same of the library for C, linked into a folder
 build_gated_library_in() {
-  build_gated "$1" awari_c "$(dirname "$(rt doc)")/toolchain" "$2/libawari_c.a"
-  link_library "$2/libawari_c.a" "$2"
+  build_gated "$1" awari_exports "$(dirname "$(rt doc)")/toolchain" "$2/libawari_exports.a"
+  link_library "$2/libawari_exports.a" "$2"
 }
 
 # what links the shared library
@@ -187,7 +187,7 @@ linker() { "${CC:-cc}" -Wl,--version 2>/dev/null | head -n 1; }
 # what makes the module's memory one of 32 bits
 optimizer() { wasm-opt --version 2>/dev/null; }
 
-# makes libawari.a and libawari.so.0 in a folder of what the toolchain built of `awari_c`, and of the part
+# makes libawari.a and libawari.so.0 in a folder of what the toolchain built of `awari_exports`, and of the part
 # of the C library that the toolchain brings; of both a program sees the calls of awari.h, and no other name
 link_library() {
   local built=$1 to=$2 kit parts=$2/parts.a

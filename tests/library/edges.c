@@ -148,6 +148,39 @@ static void try_levels(const char *folder) {
     awari_close(&other);
 }
 
+/* Levels 0 and 1, built in slices, with a question after each. Their files are those of the folder. */
+static void try_built(void) {
+    awari_handle handle = AWARI_CLOSED, other = AWARI_CLOSED;
+    awari_draft draft = {9, 9, true};
+    awari_level_counts counts = {9, 9, 9, 9};
+    uint8_t file[156] = {9}, line[2] = {9, 9};
+    size_t moves = 9;
+    EXPECT(awari_file_len(0) == 90 && awari_file_len(1) == sizeof file);
+    EXPECT(awari_spread(&handle, 1, &draft) == AWARI_NOT_YET && draft.gain == 9 && is_closed(&handle));
+    EXPECT(awari_finish(&handle, file, 90) == AWARI_NOT_YET && file[0] == 9 && is_closed(&handle));
+    EXPECT(awari_counts(&handle, 0, &counts) == AWARI_NOT_YET && counts.limit == 9);
+    EXPECT(awari_longest_line(&handle, none, line, 2, &moves) == AWARI_NOT_YET && moves == 9);
+    for (uint8_t level = 0; level < 2; level++) {
+        size_t len = awari_file_len(level);
+        EXPECT(awari_begin(&handle) == AWARI_OK && awari_levels(&handle) == level);
+        EXPECT(awari_share(&handle, &other) == AWARI_OK && awari_levels(&other) == level);
+        EXPECT(awari_spread(&other, 1, &draft) == AWARI_NOT_YET);
+        do EXPECT(awari_spread(&handle, 1, &draft) == AWARI_OK && awari_levels(&handle) == level);
+        while (!draft.settled);
+        EXPECT(awari_finish(&handle, file, len - 1) == AWARI_WRITE && awari_levels(&handle) == level);
+        EXPECT(awari_finish(&handle, file, len) == AWARI_OK && awari_levels(&handle) == level + 1);
+        EXPECT(len == files.level[level].len && !memcmp(file, files.level[level].bytes, len));
+        EXPECT(awari_finish(&handle, file, len) == AWARI_NOT_YET && awari_counts(&handle, level, &counts) == AWARI_OK);
+    }
+    EXPECT(counts.won == 5 && counts.even == 0 && counts.lost == 7 && counts.limit == 1);
+    EXPECT(awari_counts(&handle, 2, &counts) == AWARI_NOT_YET && awari_counts(&handle, 255, &counts) == AWARI_NOT_YET);
+    EXPECT(awari_longest_line(&handle, last, line, 2, &moves) == AWARI_OK && moves == 1 && line[0] == 5 && line[1] == 9);
+    EXPECT(awari_longest_line(&handle, stones_49, line, 2, &moves) == AWARI_TOO_MANY && moves == 1);
+    EXPECT(awari_begin(&handle) == AWARI_OK); /* which closing gives up */
+    awari_close(&handle);
+    awari_close(&other);
+}
+
 static void try_mapped(void) {
     static const awari_file empty = {(const uint8_t *)"", 0};
     awari_file cut[3], more[30]; /* more than there are levels */
@@ -261,6 +294,7 @@ int main(int argc, char **argv) {
     try_told(argv[1]);
     try_closed();
     try_levels(argv[1]);
+    try_built();
     try_mapped();
     int before = opened(), own = mapped();
     try_folders(argv[2]);

@@ -61,6 +61,53 @@ static int was_refused(void) {
     return refused;
 }
 
+/* Builds all of the level that was begun. */
+static uint8_t spread(awari_handle *handle) {
+    awari_draft draft = {0, 0, false};
+    uint8_t answer = AWARI_OK;
+    while (!answer && !draft.settled) answer = awari_spread(handle, 9, &draft);
+    return answer;
+}
+
+/* The calls that build level 3, or level 0 in a closed handle, and a line, with the growth after `count` refused.
+ * What was built is lost then, and the levels stay. */
+static int starve_building(int count, awari_handle *handle, awari_handle *closed) {
+    uint8_t file[2268], line[8], answer;
+    size_t moves = 99;
+    int any = 0, refused;
+    given = count, answer = awari_longest_line(handle, board, line, sizeof line, &moves), any |= refused = was_refused();
+    EXPECT(answer == (refused ? AWARI_MEMORY : AWARI_OK) && (moves == 99) == refused && awari_levels(handle) == 3);
+    given = count, answer = awari_begin(closed), any |= refused = was_refused();
+    EXPECT(answer == (refused ? AWARI_MEMORY_OF_LEVEL : AWARI_OK) && awari_levels(closed) == 0);
+    given = count, answer = awari_begin(handle), any |= refused = was_refused();
+    EXPECT(answer == (refused ? AWARI_MEMORY_OF_LEVEL : AWARI_OK));
+    EXPECT(!awari_begin(handle));
+    given = count, answer = spread(handle), any |= refused = was_refused();
+    EXPECT(answer == (refused ? AWARI_MEMORY_OF_LEVEL : AWARI_OK));
+    EXPECT(!awari_begin(handle) && !spread(handle));
+    given = count, answer = awari_finish(handle, file, sizeof file), any |= refused = was_refused();
+    EXPECT(answer == (refused ? AWARI_MEMORY_OF_LEVEL : AWARI_OK) && awari_levels(handle) == (refused ? 3 : 4));
+    return any;
+}
+
+/* Takes no memory, as the header says of these. */
+static void try_spare(void) {
+    awari_handle handle = AWARI_CLOSED;
+    awari_entry entry;
+    awari_move moves[6];
+    awari_level_counts counts;
+    int8_t value;
+    size_t told;
+    EXPECT(!opened(&handle, 3));
+    given = 0;
+    EXPECT(!awari_probe(&handle, board, &entry) && !awari_probe_value(&handle, board, &value));
+    EXPECT(!awari_probe_moves(&handle, board, moves) && !awari_probe_many(&handle, board, 1, &entry, 1, &told));
+    EXPECT(!awari_counts(&handle, 2, &counts) && !awari_probe_moves_files(files.level, 3, board, moves));
+    EXPECT(!awari_probe_file(files.level[2].bytes, files.level[2].len, board, &entry) && given == 0);
+    given = -1;
+    awari_close(&handle);
+}
+
 /* Each call with the growth after `count` refused; 0 once no call takes so many. */
 static int starve(int count) {
     awari_handle handle = AWARI_CLOSED, other = AWARI_CLOSED;
@@ -83,6 +130,8 @@ static int starve(int count) {
     given = count, answer = awari_check_file(files.level[0].bytes, files.level[0].len, below, digest);
     any |= refused = was_refused();
     EXPECT(answer == (refused ? AWARI_MEMORY : AWARI_OK));
+    awari_close(&other);
+    any |= starve_building(count, &handle, &other);
     awari_close(&handle);
     awari_close(&other);
     return any;
@@ -139,6 +188,7 @@ int main(int argc, char **argv) {
     EXPECT(count > 1);
     look_all_up();
     map_none(argv[1]);
+    try_spare();
     awari_unmap(&files);
     return wrong;
 }

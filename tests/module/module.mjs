@@ -302,6 +302,30 @@ function compareCounts(levels) {
   expectRefused(59, () => levels.counts(TOP + 1));
 }
 
+/** Values alone, many boards at once and the bytes of files tell what `entry` and `moves` tell of verified levels. */
+function compareOtherCalls(levels, boards) {
+  const same = (one, other) => JSON.stringify(one) === JSON.stringify(other), entries = boards.map(board => levels.entry(board));
+  const files = Array.from({ length: TOP + 1 }, (_, level) => fileOf(level)), sum = board => board.reduce((a, b) => a + b);
+  expect("many boards are told otherwise", same(levels.probeMany(boards), entries) && same(levels.probeMany([]), []));
+  expectRefused(59, () => levels.probeMany([boards[0], Array(12).fill(4)]));
+  boards.forEach((board, at) => {
+    expect(`${word(board)}: another value`, levels.value(board) === entries[at].value);
+    expect(`${word(board)}: another entry in its file`, same(levels.entryIn(files[sum(board)], board), entries[at]));
+    expect(`${word(board)}: other moves in files`, same(levels.movesIn(files, board), levels.moves(board)));
+  });
+  let digest = new Uint8Array(32);
+  for (const file of files) {
+    expectRefused(80, () => levels.check(file, new Uint8Array(32).fill(1)));
+    digest = levels.check(file, digest);
+    expect("a file ends in another digest", Buffer.compare(Buffer.from(digest), file.subarray(-32)) === 0);
+  }
+  expectRefused(66, () => levels.check(Uint8Array.from(files[1], (byte, at) => byte ^ (at === 155)), new Uint8Array(32)));
+  expectRefused(60, () => levels.entryIn(files[2].subarray(1), levels.board(2, 0)));
+  expectRefused(20, () => levels.movesIn([files[0], files[0]], levels.board(1, 0)));
+  expectRefused(59, () => levels.movesIn([], levels.board(0, 0)));
+  expect("the sentence of 3", levels.sentence(3) === "A board has at most 48 stones" && levels.sentence(255).length > 9);
+}
+
 function allBoards(levels, highest) {
   const boards = [];
   for (let level = 0; level <= highest; level++)
@@ -338,6 +362,7 @@ compareMoves(levels, [...allBoards(levels, Math.min(TOP, 6)), ...randomBoards(le
 compareLines(levels, randomBoards(levels, 50));
 compareLongestLines(levels, randomBoards(levels, 50));
 compareCounts(levels);
+compareOtherCalls(levels, randomBoards(levels, 100));
 levels.close();
 expect("closed, it has levels", levels.length === 0);
 if (faults > FAULTS_SHOWN) console.log(`${faults} faults`);

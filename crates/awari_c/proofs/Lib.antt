@@ -1,5 +1,0 @@
-mod FileMoves
-mod Handling
-mod Mapping
-mod Numbers
-mod Runs

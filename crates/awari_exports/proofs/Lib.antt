@@ -1,0 +1,9 @@
+mod Built
+mod FileMoves
+mod Handling
+mod Mapping
+mod Numbers
+mod Runs
+mod Sixes
+mod Slices
+mod Values

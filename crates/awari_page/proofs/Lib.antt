@@ -1,4 +1,0 @@
-mod Built
-mod Handling
-mod Sides
-mod Slices

@@ -1,3 +1,0 @@
-pub mod Held
-pub mod Owned
-pub mod Told

@@ -1,2 +1,0 @@
-pub mod Sixes
-pub mod Values

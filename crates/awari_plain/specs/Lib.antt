@@ -1,3 +1,0 @@
-pub mod Boards
-pub mod Owned
-pub mod Told
