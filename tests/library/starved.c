@@ -90,24 +90,6 @@ static int starve_building(int count, awari_handle *handle, awari_handle *closed
     return any;
 }
 
-/* Takes no memory, as the header says of these. */
-static void try_spare(void) {
-    awari_handle handle = AWARI_CLOSED;
-    awari_entry entry;
-    awari_move moves[6];
-    awari_level_counts counts;
-    int8_t value;
-    size_t told;
-    EXPECT(!opened(&handle, 3));
-    given = 0;
-    EXPECT(!awari_probe(&handle, board, &entry) && !awari_probe_value(&handle, board, &value));
-    EXPECT(!awari_probe_moves(&handle, board, moves) && !awari_probe_many(&handle, board, 1, &entry, 1, &told));
-    EXPECT(!awari_counts(&handle, 2, &counts) && !awari_probe_moves_files(files.level, 3, board, moves));
-    EXPECT(!awari_probe_file(files.level[2].bytes, files.level[2].len, board, &entry) && given == 0);
-    given = -1;
-    awari_close(&handle);
-}
-
 /* Each call with the growth after `count` refused; 0 once no call takes so many. */
 static int starve(int count) {
     awari_handle handle = AWARI_CLOSED, other = AWARI_CLOSED;
@@ -141,6 +123,7 @@ static int starve(int count) {
 static void look_up(awari_handle *handle, const uint8_t pits[12], unsigned stones) {
     awari_entry entry;
     awari_move moves[6];
+    awari_level_counts counts;
     int8_t value;
     size_t told;
     uint8_t due = stones > 48 ? AWARI_TOO_MANY : stones > 2 ? AWARI_NOT_YET : AWARI_OK;
@@ -151,6 +134,7 @@ static void look_up(awari_handle *handle, const uint8_t pits[12], unsigned stone
     EXPECT(awari_probe_file(file->bytes, file->len, pits, &entry) == due);
     EXPECT(awari_probe_file(file->bytes, file->len - 1, pits, &entry) != AWARI_OK);
     EXPECT(awari_probe_moves_files(files.level, files.count, pits, moves) == due);
+    EXPECT(awari_counts(handle, 2, &counts) == AWARI_OK && awari_counts(handle, 3, &counts) == AWARI_NOT_YET);
     EXPECT(given == 0);
     given = -1;
 }
@@ -188,7 +172,6 @@ int main(int argc, char **argv) {
     EXPECT(count > 1);
     look_all_up();
     map_none(argv[1]);
-    try_spare();
     awari_unmap(&files);
     return wrong;
 }
