@@ -6,8 +6,8 @@
     Entry(value=2, plan=0, distance=8)
 
 A board is its word, or the twelve numbers of its pits. `Levels` reads a folder and verifies each level,
-so what it says is right. `Levels.mapped` maps the files and verifies nothing. Its answers are the
-truth if `awari verify` says yes to these files, or if their last digest is one that you trust.
+so what it says is right. It builds the next level too. `Levels.mapped` maps the files and verifies nothing. Its
+answers are the truth if `awari verify` says yes to these files, or if their last digest is one that you trust.
 A refusal is a `Refused`, with the number and the name of docs/FORMATS.md.
 
 Any number of threads may ask one object, of either kind. In an interpreter without a global lock give each
@@ -38,8 +38,8 @@ else:
     ArrayLike = _Array = Any
 
 __all__ = [
-    "HIGHEST_LEVEL", "NAMES", "NO_PLAN", "PITS", "Board", "Counts", "Entry", "Levels", "Line", "Mapped", "Move",
-    "Refused", "Replies", "boards", "play", "rank_many", "size", "version",
+    "HIGHEST_LEVEL", "NAMES", "NO_PLAN", "PITS", "Board", "Counts", "Draft", "Entry", "Levels", "Line", "Mapped", "Move",
+    "Refused", "Replies", "Tally", "boards", "play", "rank_many", "size", "version",
 ]
 
 HIGHEST_LEVEL = 24
@@ -48,9 +48,9 @@ PITS = 12
 NO_PLAN = 255
 NAMES = {
     1: "Shape", 2: "Number", 3: "TooMany", 4: "NoPit", 5: "EmptyPit", 6: "MustFeed", 7: "Ended",
-    20: "WrongLevel", 21: "WrongSize", 22: "Refused", 59: "NotYet", 60: "Truncated", 61: "Magic",
-    62: "Version", 63: "LevelOutOfRange", 64: "Count", 65: "EntryForm", 66: "Digest", 67: "Trailing",
-    68: "Read", 80: "Below", 81: "File", 82: "Open", 83: "Verify", 84: "Memory", 86: "Old",
+    20: "WrongLevel", 21: "WrongSize", 22: "Refused", 51: "TooHigh", 53: "Memory", 59: "NotYet", 60: "Truncated",
+    61: "Magic", 62: "Version", 63: "LevelOutOfRange", 64: "Count", 65: "EntryForm", 66: "Digest", 67: "Trailing",
+    68: "Read", 70: "Write", 80: "Below", 81: "File", 82: "Open", 83: "Verify", 84: "Memory", 86: "Old",
 }
 
 Board = Union[str, Sequence[int], _Array]
@@ -91,15 +91,32 @@ class Line(NamedTuple):
 
 
 class Counts(NamedTuple):
-    """A level in numbers: how many boards there are of each kind, value and distance."""
+    """What the boards of a level come to: how many are won, even and lost for the mover, and the greatest distance."""
 
     boards: int
     won: int
     even: int
     lost: int
     limit: int
+
+
+class Tally(NamedTuple):
+    """How many boards of a level have each value, and each distance."""
+
     values: dict[int, int]
     distances: dict[int, int]
+
+
+class Draft(NamedTuple):
+    """How far a level is that was begun.
+
+    `boards` of it are settled and were spread. `gain` is open, or one more than the level if none was opened yet. All
+    gains are closed if it is `settled`.
+    """
+
+    boards: int
+    gain: int
+    settled: bool
 
 
 class Refused(Exception):
@@ -167,8 +184,13 @@ class _Sentence(ctypes.Structure):
 
 _ENTRY = Struct("<bBxxI")
 _MOVE = Struct("<?BhI")
+_DRAFT = Struct("<QB?6x")
+_COUNTS = Struct("<IIII")
 _HEADER_BYTES = 52
 _ENTRY_BYTES = 6
+_DIGEST_BYTES = 32
+# A slice of this many boards takes some 20 milliseconds.
+_SLICE = 100_000
 _LIMIT = Struct(">16xI")
 # No level has a greater limit: docs/levels.csv.
 _GREATEST_LIMIT = 194
@@ -197,8 +219,10 @@ _CALLS: dict[str, tuple[Any, list[Any]]] = {
     "awari_rank": (_BYTE, [_AT, _AT, _AT]),
     "awari_levels": (_BYTE, [_AT]),
     "awari_probe": (_BYTE, [_AT, _AT, _AT]),
+    "awari_probe_value": (_BYTE, [_AT, _AT, _AT]),
     "awari_probe_moves": (_BYTE, [_AT, _AT, _AT]),
     "awari_line": (_BYTE, [_AT, _AT, _AT, _SIZE, _AT]),
+    "awari_longest_line": (_BYTE, [_AT, _AT, _AT, _SIZE, _AT]),
     "awari_share_with": (_BYTE, [_AT, _AT]),
     "awari_close": (None, [_AT]),
     "awari_probe_file": (_BYTE, [_AT, _SIZE, _AT, _AT]),
@@ -207,6 +231,10 @@ _CALLS: dict[str, tuple[Any, list[Any]]] = {
 _LONG_CALLS: dict[str, tuple[Any, list[Any]]] = {
     "awari_add_level": (_BYTE, [_AT, _AT, _SIZE, _AT]),
     "awari_probe_many": (_BYTE, [_AT, _AT, _SIZE, _AT, _SIZE, _AT]),
+    "awari_counts": (_BYTE, [_AT, _BYTE, _AT]),
+    "awari_begin": (_BYTE, [_AT]),
+    "awari_spread": (_BYTE, [_AT, _SIZE, _AT]),
+    "awari_finish": (_BYTE, [_AT, _AT, _SIZE]),
     "awari_check_file": (_BYTE, [_AT, _SIZE, _AT, _AT]),
 }
 
@@ -337,6 +365,14 @@ class _Answers:
         """
         raise NotImplementedError
 
+    def value(self, board: Board) -> int:
+        """The value of a board alone.
+
+        >>> levels.value("1,0,0,0,0,0/0,0,1,0,0,0")
+        2
+        """
+        return self.entry(board).value
+
     def moves(self, board: Board) -> list[Move]:
         """What each legal pit is worth, ascending; none if the play has ended.
 
@@ -374,19 +410,15 @@ class _Answers:
         >>> levels.longest("1,0,0,0,0,0/0,0,1,0,0,0")
         [0, 2, 1, 3, 2, 4, 3, 5]
         """
-        pits: list[int] = []
-        captures = 0
-        while (entry := self._judged(board)).distance and not captures:
-            # The losing side plays its lowest pit that takes longest.
-            pit = entry.plan if entry.value > 0 else next(m.pit for m in self.moves(board) if m.distance == entry.distance)
-            assert pit is not None  # a distance has a plan
-            pits.append(pit)
-            board, captures = play(board, pit)
-        return pits
+        raise NotImplementedError
 
-    def _judged(self, board: Board) -> Entry:
-        """What the levels say of a board, if it is right beside what they say of its moves."""
-        return self.entry(board)
+    def counts(self, level: int) -> Counts:
+        """What the boards of a level come to. Of mapped files it wants numpy, and the limit is what the file says.
+
+        >>> levels.counts(1)
+        Counts(boards=12, won=5, even=0, lost=7, limit=1)
+        """
+        raise NotImplementedError
 
     def __enter__(self: _Kind) -> _Kind:
         return self
@@ -406,13 +438,14 @@ class Levels(_Answers):
     """The levels of a folder, each verified: level 0 up to the first whose file is not there.
 
     With `most`, levels of more stones are not read. A folder without level 0 is refused as 82. Any number of
-    threads may ask at once.
+    threads may ask at once, also while one of them builds the next level.
 
     >>> len(Levels("levels", most=4))
     5
     """
 
     _at: int | None = None
+    _draft: Levels | None = None
 
     def __init__(self, folder: _Folder, most: int = HIGHEST_LEVEL):
         with Mapped(folder, most) as files:
@@ -422,7 +455,29 @@ class Levels(_Answers):
                 if answer:
                     _awari.awari_close(ctypes.addressof(handle))
                 _expect(answer, fault)
+        self._hold(handle)
+
+    def _hold(self, handle: _Handle) -> None:
         self._handle, self._at = handle, ctypes.addressof(handle)
+        # The first is held for a moment, while levels come or go. The second is held for long calls, up to a whole build.
+        self._change, self._turn = threading.RLock(), threading.Lock()
+
+    @staticmethod
+    def _of(handle: _Handle) -> Levels:
+        levels = Levels.__new__(Levels)
+        levels._hold(handle)
+        return levels
+
+    @staticmethod
+    def start() -> Levels:
+        """No level yet. `build` puts level 0 on, and so on.
+
+        >>> with Levels.start() as built:
+        ...     files = [built.build() for level in range(3)]
+        ...     built.entry("1,0,0,0,0,0/0,0,1,0,0,0").distance
+        8
+        """
+        return Levels._of(_Handle())
 
     @staticmethod
     def mapped(folder: _Folder, most: int = HIGHEST_LEVEL) -> Mapped:
@@ -442,6 +497,12 @@ class Levels(_Answers):
         _read(board, at.pits, at.pits_at)
         return _entry(_probe(self._at, at.pits_at, at.entry_at), at.entry)
 
+    def value(self, board: Board) -> int:
+        at = _scratch
+        _read(board, at.pits, at.pits_at)
+        _expect(_awari.awari_probe_value(self._at, at.pits_at, at.entry_at))
+        return int.from_bytes(at.entry.raw[:1], "little", signed=True)
+
     def moves(self, board: Board) -> list[Move]:
         at = _scratch
         _read(board, at.pits, at.pits_at)
@@ -451,13 +512,31 @@ class Levels(_Answers):
     def line(self, board: Board) -> Line:
         at = _scratch
         _read(board, at.pits, at.pits_at)
-        value, room = self.entry(list(at.pits.raw)).value, 64
+        value = self.value(list(at.pits.raw))
+        return Line(self._line(_awari.awari_line), value)
+
+    def longest(self, board: Board) -> list[int]:
+        _read(board, _scratch.pits, _scratch.pits_at)
+        return self._line(_awari.awari_longest_line)
+
+    def _line(self, call: Any) -> list[int]:
+        """The pits that a call tells of the board that was read. It is asked again where it has more than there was room for."""
+        at, room = _scratch, 64
         while True:
             pits = ctypes.create_string_buffer(room)
-            _expect(_awari.awari_line(self._at, at.pits_at, ctypes.addressof(pits), room, at.size_at))
+            _expect(call(self._at, at.pits_at, ctypes.addressof(pits), room, at.size_at))
             if at.size.value <= room:
-                return Line(list(pits.raw[: at.size.value]), value)
+                return list(pits.raw[: at.size.value])
             room = at.size.value
+
+    def counts(self, level: int) -> Counts:
+        level = _whole(level, _LEVELS_ARE)
+        if not 0 <= level <= HIGHEST_LEVEL:
+            raise Refused(59)
+        found = ctypes.create_string_buffer(_COUNTS.size)
+        with self.share() as own:
+            _expect(_awari_long.awari_counts(own._at, level, ctypes.addressof(found)))
+        return Counts(size(level), *_COUNTS.unpack(found))
 
     def probe_many(self, boards: ArrayLike) -> _Array:
         """What the levels say of an array of boards, twelve pits each: an array of value, plan and distance.
@@ -481,15 +560,97 @@ class Levels(_Answers):
         ...     len(shared)
         7
         """
-        shared, handle = Levels.__new__(Levels), _Handle()
+        handle = _Handle()
         _expect(_awari.awari_share_with(self._at, ctypes.addressof(handle)))
-        shared._handle, shared._at = handle, ctypes.addressof(handle)
-        return shared
+        return Levels._of(handle)
+
+    def begin(self) -> None:
+        """Begins the next level, in place of one that was begun. It is refused as 51 or 53.
+
+        >>> with levels.share() as own:
+        ...     own.begin()
+        ...     own.spread()
+        Draft(boards=0, gain=7, settled=False)
+        """
+        draft = self.share()
+        _expect(_awari_long.awari_begin(draft._at))
+        self._draft = draft
+
+    def spread(self, boards: int = _SLICE) -> Draft:
+        """Builds a slice of the level that was begun: spreads about this many boards of one distance, or opens a gain.
+
+        It is refused as 59 if no level was begun, and as 53, and then the level is lost. Other threads ask meanwhile,
+        and wait for nothing.
+
+        >>> with levels.share() as own:
+        ...     own.begin()
+        ...     while not (draft := own.spread(10_000)).settled:
+        ...         pass
+        >>> draft
+        Draft(boards=27341, gain=1, settled=True)
+        """
+        boards = _whole(boards, "a slice is a whole number of boards")
+        if boards < 1:
+            raise ValueError(f"a slice is 1 board or more, and not {boards}")
+        draft, told = self._begun(), ctypes.create_string_buffer(_DRAFT.size)
+        with draft._turn:
+            _expect(_awari_long.awari_spread(draft._at, min(boards, 2**63), ctypes.addressof(told)))
+        return Draft(*_DRAFT.unpack(told))
+
+    def finish(self) -> bytearray:
+        """Puts the level on that was begun and whose gains are all closed, and gives the bytes of its file.
+
+        It is refused as 59 if no level was begun or not all gains are closed, and as 53, and then the level is lost.
+        If it is refused as 84, the object is closed.
+
+        >>> with Levels.start() as own:
+        ...     own.begin()
+        ...     while not own.spread().settled:
+        ...         pass
+        ...     len(own.finish()), len(own)
+        (90, 1)
+        """
+        draft = self._begun()
+        with draft._turn:
+            level = len(draft)
+            file = bytearray(_HEADER_BYTES + _ENTRY_BYTES * size(min(level, HIGHEST_LEVEL)) + _DIGEST_BYTES)
+            place = (ctypes.c_char * len(file)).from_buffer(file)
+            _expect(_awari_long.awari_finish(draft._at, ctypes.addressof(place), len(file)))
+        with self._change:
+            if len(self) != level:  # it was closed, or another thread has put this level on
+                raise Refused(59)
+            _expect(_awari.awari_share_with(draft._at, self._at))
+            self._draft = None
+        return file
+
+    def build(self) -> bytearray:
+        """Builds the next level, puts it on and gives the bytes of its file. It is refused as `begin` and `finish` are.
+
+        Threads that build at once do so in turn, each a level of its own.
+
+        >>> with Levels("levels", most=3) as own:
+        ...     file = own.build()
+        >>> file[-32:].hex()
+        'b55db5f40f80654fee93fde6d202a74b07968d57100653e9539b264afcbfc16d'
+        """
+        with self._turn:
+            self.begin()
+            while not self.spread().settled:
+                pass
+            return self.finish()
+
+    def _begun(self) -> Levels:
+        """What has the levels and the next one, which was begun. A long call has it, and others don't ask it."""
+        if self._draft is None:
+            raise Refused(59)
+        return self._draft
 
     def close(self) -> None:
-        """Gives the levels back, if no other object shares them."""
+        """Gives the levels back, if no other object shares them, and one that was begun."""
         if self._at is not None:
-            _awari.awari_close(self._at)
+            with self._change:
+                self._draft = None
+                _awari.awari_close(self._at)
 
 
 class Mapped(_Answers):
@@ -588,7 +749,19 @@ class Mapped(_Answers):
             raise Refused(83, _Fault(level, 22, 7, 0))
         return limit
 
+    def longest(self, board: Board) -> list[int]:
+        pits: list[int] = []
+        captures = 0
+        while (entry := self._judged(board)).distance and not captures:
+            # The losing side plays its lowest pit that takes longest.
+            pit = entry.plan if entry.value > 0 else next(m.pit for m in self.moves(board) if m.distance == entry.distance)
+            assert pit is not None  # a distance has a plan
+            pits.append(pit)
+            board, captures = play(board, pit)
+        return pits
+
     def _judged(self, board: Board) -> Entry:
+        """What the files say of a board, if it is right beside what they say of its moves."""
         entry, moves = self.entry(board), self.moves(board)
         rule = _broken_rule(_pits(board), entry, moves)
         if rule is not None:
@@ -655,15 +828,18 @@ class Mapped(_Answers):
         return found
 
     def counts(self, level: int) -> Counts:
-        """The level in numbers, as `awari counts` prints them.
+        values = self.values(level)
+        won, lost = int((values > 0).sum()), int((values < 0).sum())
+        return Counts(len(values), won, len(values) - won - lost, lost, self.limit(level))
 
-        >>> mapped.counts(1)
-        Counts(boards=12, won=5, even=0, lost=7, limit=1, values={-1: 7, 1: 5}, distances={0: 11, 1: 1})
+    def tally(self, level: int) -> Tally:
+        """How many boards of a level have each value, and each distance.
+
+        >>> mapped.tally(1)
+        Tally(values={-1: 7, 1: 5}, distances={0: 11, 1: 1})
         """
         entries = self.entries(level)
-        values, distances = _numbers(entries["value"]), _numbers(entries["distance"])
-        won, even = sum(times for value, times in values.items() if value > 0), values.get(0, 0)
-        return Counts(len(entries), won, even, len(entries) - won - even, self.limit(level), values, distances)
+        return Tally(_numbers(entries["value"]), _numbers(entries["distance"]))
 
     def close(self) -> None:
         """Gives the files back. An array over a file keeps that file's bytes as long as it lives."""

@@ -1,8 +1,9 @@
 """Works out what cases.rows says of whole levels: answers.py
 
-Boards and moves go by docs/RULES.md, and entries by docs/FORMATS.md and the bytes of examples/levels. Nothing
-here is of the library, nor of the program. What cases.rows says of wrong folders stands in FORMATS.md. It
-prints each row whose answer is another one, and ends with `N passed, M failed`.
+Boards and moves go by docs/RULES.md, and entries by docs/FORMATS.md and the bytes of examples/levels. The digest
+of a level that is built stands in docs/levels.csv. Nothing here is of the library, nor of the program. What
+cases.rows says of wrong folders stands in FORMATS.md. It prints each row whose answer is another one, and ends
+with `N passed, M failed`.
 """
 import re
 import sys
@@ -13,7 +14,7 @@ from pathlib import Path
 from types import SimpleNamespace
 
 sys.path.append(str(Path(__file__).resolve().parent.parent))
-from common import DIGEST, ENTRY, HEADER, TOP, boards_of, expect, finish, size, text
+from common import DIGEST, ENTRY, HEADER, TOP, boards_of, digests, expect, finish, size, text
 
 LEVELS = TOP / "examples" / "levels"
 HIGHEST, MOST_STONES, NO_PLAN = 24, 48, 255
@@ -180,6 +181,11 @@ def counts(level):
     return [sum(value > 0 for value in values), values.count(0), sum(value < 0 for value in values), limit(level)]
 
 
+def built(levels):
+    """The level that is built over so many, and the digest of its file."""
+    return words((levels, digests()[levels]))
+
+
 # ---- the answers
 
 def words(numbers):
@@ -222,6 +228,7 @@ ANSWERS = {
     "longest": lambda word: words(longest(board_of(word))) or "none",
     "replies": lambda word: rows(replies(board_of(word))),
     "counts": lambda level: words(counts(int(level))),
+    "build": lambda: built(count()),
     "limit": lambda level: str(limit(int(level))),
     "play": lambda word, pit: named(*tried(board_of(word), int(pit))),
     "legal": lambda word: words(legal(board_of(word))) or "none",
@@ -238,7 +245,9 @@ def answer_of(case):
     try:
         if case.place != "closed":
             return ANSWERS[case.call](*case.words)
-        for word in case.words:
+        if case.call == "build":
+            return built(0)
+        for word in case.words if case.call != "counts" else ():
             board_of(word)
     except Refused as refusal:
         return str(refusal)

@@ -30,9 +30,10 @@ def compare(levels, mapped, level):
         assert entry == mapped.entry(boards[rank]), (level, rank)
         plan = awari.NO_PLAN if entry.plan is None else entry.plan
         assert (entry.value, plan, entry.distance) == tuple(map(int, entries[rank])), (level, rank)
-    counts = mapped.counts(level)
-    assert counts.won + counts.even + counts.lost == counts.boards == awari.size(level), level
-    assert sum(counts.values.values()) == sum(counts.distances.values()) == counts.boards, level
+    counts, (values, distances) = mapped.counts(level), mapped.tally(level)
+    assert counts == levels.counts(level) and counts.boards == awari.size(level), level
+    assert sum(times for value, times in values.items() if value > 0) == counts.won, level
+    assert sum(values.values()) == sum(distances.values()) == counts.boards and max(distances) == counts.limit, level
     return boards
 
 

@@ -1,10 +1,11 @@
 """Asks each row of cases.rows in Python: cases.py ROOM
 
 ROOM has the folders that folders.py makes. A board is asked by its word and by its pits, of the levels verified
-and mapped. Without numpy, the calls that give arrays are left out. It prints each row whose answer is another
+and mapped. Without numpy, the calls that want it are left out. It prints each row whose answer is another
 one, and ends with `N passed, M failed`.
 """
 import functools
+import hashlib
 import importlib.util
 import signal
 import sys
@@ -59,6 +60,20 @@ def checked(levels):
     return "right" if found == (True, False) else f"check says {found}"
 
 
+def valued(levels, board):
+    """The entry, if the value alone is the same."""
+    entry, value = levels.entry(board), levels.value(board)
+    return shown(entry) if value == entry.value else f"value says {value}"
+
+
+def built(levels):
+    """The level that is built over these, which stay as they are, and the digest in which its file ends."""
+    with levels.share() as own:
+        level, file = len(own), own.build()
+        right = len(own) == level + 1 and len(levels) == level and hashlib.sha256(file[:-32]).digest() == file[-32:]
+        return f"{level} {file[-32:].hex()}" if right else "a file with another digest"
+
+
 def count_of(opened):
     """How many levels there are in what is opened."""
     with opened as levels:
@@ -78,17 +93,15 @@ def told(call):
 # ---- the calls
 
 OF_LEVELS = {
-    "entry": lambda levels, board: shown(levels.entry(board)),
+    "entry": valued,
     "moves": lambda levels, board: rows(levels.moves(board)),
     "line": lambda levels, board: lined(levels.line(board)),
     "longest": lambda levels, board: words(levels.longest(board)) or "none",
     "replies": lambda levels, board: rows(levels.replies(board)),
-}
-OF_FILES = {
-    "check": checked,
-    "limit": lambda levels, level: str(levels.limit(int(level))),
     "counts": lambda levels, level: counted(levels.counts(int(level))),
 }
+OF_VERIFIED = {"build": built}
+OF_FILES = {"check": checked, "limit": lambda levels, level: str(levels.limit(int(level)))}
 OF_NONE = {
     "play": lambda board, pit: named(*awari.play(board, int(pit))),
     "size": lambda level: str(awari.size(int(level)) if int(level) < 25 else 0),
@@ -96,7 +109,7 @@ OF_NONE = {
     "rank": lambda board: words(int(number[0]) for number in awari.rank_many([board])),
     "board": lambda level, number: text(awari.boards(int(level), [int(number)])[0].tolist()),
 }
-ARRAYS = {"counts", "rank", "board"}
+ARRAYS = {"rank", "board"}
 
 
 @functools.cache
@@ -132,11 +145,12 @@ def answers(room, case):
     """What each call tells that answers the case."""
     if case.call in ("open", "map"):
         return [opened(room, case)]
-    if case.call in OF_FILES:
-        files = [one for one in objects(room, case.place) if isinstance(one, awari.Mapped)]
-        return [told(lambda: OF_FILES[case.call](one, *case.words)) for one in files]
+    for calls, kind in ((OF_FILES, awari.Mapped), (OF_VERIFIED, awari.Levels)):
+        if case.call in calls:
+            return [told(lambda: calls[case.call](one, *case.words)) for one in objects(room, case.place) if isinstance(one, kind)]
     if case.call in OF_LEVELS:
-        return [told(lambda: OF_LEVELS[case.call](one, *given)) for one in objects(room, case.place) for given in boards(case)]
+        asked = [one for one in objects(room, case.place) if HAS_NUMPY or case.call != "counts" or isinstance(one, awari.Levels)]
+        return [told(lambda: OF_LEVELS[case.call](one, *given)) for one in asked for given in boards(case)]
     # what takes an array of boards takes no words
     given = [found for found in boards(case) if case.call != "rank" or isinstance(found[0], list)]
     return [told(lambda: OF_NONE[case.call](*found)) for found in given if case.call in OF_NONE]

@@ -274,7 +274,7 @@ def try_public():
 def try_examples():
     """The examples of the docstrings, but those of arrays if numpy is not here."""
     before, levels = os.getcwd(), TOP / "examples" / "levels"
-    has_numpy, needs_numpy = importlib.util.find_spec("numpy"), re.compile("probe_many|entries|values|counts|rank_many|boards[(]")
+    has_numpy, needs_numpy = importlib.util.find_spec("numpy"), re.compile("probe_many|entries|values|tally|rank_many|boards[(]")
     here = {"levels": awari.Levels(levels), "mapped": awari.Levels.mapped(levels)}
     runner, cases = doctest.DocTestRunner(verbose=False), doctest.DocTestFinder().find(awari, extraglobs=here)
     os.chdir(levels.parent)
