@@ -1,6 +1,7 @@
 """Asks the Python module what only a program in Python meets: python.py LEVELS
 
-Six threads ask one object, which refuses none of them. Refusals go to other processes and come back. Folders,
+Six threads ask one object, which refuses none of them. Levels are built, whole and in slices, while threads ask,
+and their files are the program's. Refusals go to other processes and come back. Folders,
 files and numbers that are wrong are refused with what is wrong, and no call waits for a pipe. What is public has
 hints, and its examples run. A wheel and an sdist have what they should. LEVELS is a folder with levels 0 to 5 at
 least. It prints each line that is not so, and ends with 0 only if there is none.
@@ -36,6 +37,8 @@ import wheel_of_awari  # noqa: E402
 
 BOARD = [1, 0, 0, 0, 0, 1, 1, 0, 1, 0, 0, 0]
 THREADS, TURNS = 6, 20_000
+# The levels that are built; the last ones are built while threads ask.
+BUILT, ASKED = 8, 7
 # A call that waits for ever ends the test.
 PATIENCE = 120
 WRONG = []
@@ -62,9 +65,10 @@ def refused(call):
 def try_threads(levels):
     """Look-ups, lines and shares of one object, of which each has to be right."""
     entry, line, moves = levels.entry(BOARD), levels.line(BOARD), levels.moves(BOARD)
+    longest, counts = levels.longest(BOARD), levels.counts(4)
     calls = [
         lambda: levels.entry(BOARD) == entry, lambda: levels.line(BOARD) == line, lambda: levels.moves(BOARD) == moves,
-        lambda: levels.share().entry(BOARD) == entry,
+        lambda: levels.share().entry(BOARD) == entry, lambda: levels.longest(BOARD) == longest, lambda: levels.counts(4) == counts,
     ]
     failed = []
 
@@ -82,6 +86,105 @@ def try_threads(levels):
     for thread in threads:
         thread.join()
     expect(f"one object in {THREADS} threads", (len(failed), failed[:1]), (0, []))
+
+
+# ---- levels that are built
+
+def rows_of_levels():
+    """What docs/levels.csv has of each level."""
+    with open(TOP / "docs" / "levels.csv", newline="") as table:
+        return list(csv.DictReader(table))
+
+
+def try_built(room, folder):
+    """Levels 0 to 8, built whole: their bytes, and what the module says of their files."""
+    built = room / "built"
+    built.mkdir()
+    with awari.Levels.start() as levels:
+        for level, row in zip(range(BUILT + 1), rows_of_levels()):
+            file, known = levels.build(), folder / f"level_{level:02}.awdb"
+            (built / known.name).write_bytes(file)
+            expect(f"the digest of level {level}, as it is built", file[-32:].hex(), row["digest"])
+            expect(f"and its bytes, {level}", hashlib.sha256(file[:-32]).hexdigest(), row["digest"])
+            expect(f"and its file, {level}", not known.exists() or file == known.read_bytes(), True)
+            expect(f"how many levels there are, {level}", len(levels), level + 1)
+            told = [int(row[name]) for name in ("boards", "won", "even", "lost", "limit")]
+            expect(f"the counts of level {level}", list(levels.counts(level)), told)
+        entry = levels.entry(BOARD)
+    with awari.Levels(built) as levels:
+        expect("levels that were built, when they are read", (len(levels), levels.entry(BOARD)), (BUILT + 1, entry))
+
+
+def try_slices(folder):
+    """A level by slices of many sizes: how far it is, and its bytes."""
+    calls = {}
+    for slice_of, level in ((1, 6), (9, 4), (5000, 6), (2**70, 6)):
+        row, drafts = rows_of_levels()[level], []
+        with awari.Levels(folder, level - 1) as levels:
+            levels.begin()
+            while not drafts or not drafts[-1].settled:
+                drafts.append(levels.spread(slice_of))
+                expect("how many levels there are meanwhile", len(levels), level)
+            file = levels.finish()
+        expect(f"level {level} by slices", file[-32:].hex(), row["digest"])
+        expect("the gains that are opened", sorted({draft.gain for draft in drafts}), [*range(1, level + 1)])
+        ordered = all(one.boards <= other.boards and one.gain >= other.gain for one, other in zip(drafts, drafts[1:]))
+        expect("boards only rise, and gains only fall", ordered, True)
+        # a board that is worth 0 is never spread
+        expect("how many boards were spread", drafts[-1].boards, int(row["won"]) + int(row["lost"]))
+        calls[slice_of] = len(drafts)
+    expect("a larger slice takes fewer calls", calls[1] > calls[5000] >= calls[2**70], True)
+
+
+def try_drafts(levels):
+    """What is not begun or not settled is refused, and what was begun is given up by `close`."""
+    number, shared = len(levels), levels.share()
+    for call in (levels.spread, levels.finish):
+        expect("a level that was not begun", refused(call), "59 NotYet")
+    levels.begin()
+    levels.spread(5000)
+    levels.begin()
+    expect("what is begun anew", levels.spread(1).boards, 0)
+    expect("a level whose gains are not closed", refused(levels.finish), "59 NotYet")
+    expect("a level that was begun is not shared", refused(levels.share().spread), "59 NotYet")
+    for wrong, kind in ((0, "ValueError a slice is 1"), (-1, "ValueError a slice is 1"), (1.5, "TypeError a slice is a whole")):
+        expect(f"a slice of {wrong}", refused(lambda: levels.spread(wrong)).startswith(kind), True)
+    expect("another level is built meanwhile", (len(shared.build()), len(shared), len(levels)), (84 + 6 * awari.size(number), number + 1, number))
+    while not levels.spread().settled:
+        pass
+    levels.finish()
+    expect("a level that is put on", (len(levels), refused(levels.spread), refused(levels.finish)), (number + 1, "59 NotYet", "59 NotYet"))
+    levels.begin()
+    levels.close()
+    expect("a level that was given up", (refused(levels.spread), refused(levels.finish), len(levels)), ("59 NotYet", "59 NotYet", 0))
+
+
+def try_builders(folder):
+    """Threads that build at once do so in turn. Others ask them meanwhile. An object that is closed stays closed."""
+    levels, files, wrong = awari.Levels(folder, ASKED - 1), [], []
+    entry, builders = levels.entry(BOARD), [threading.Thread(target=lambda: files.append(levels.build())) for _ in range(3)]
+
+    def ask():
+        while any(thread.is_alive() for thread in builders):
+            if levels.entry(BOARD) != entry or not ASKED <= len(levels) <= ASKED + 3:
+                wrong.append(len(levels))
+
+    threads = [*builders, *(threading.Thread(target=ask) for _ in range(THREADS))]
+    for thread in threads:
+        thread.start()
+    for thread in threads:
+        thread.join()
+    rows = rows_of_levels()[ASKED : ASKED + 3]
+    expect("levels of three builders", sorted(map(len, files)), sorted(84 + 6 * int(row["boards"]) for row in rows))
+    expect("their digests", {bytes(file[-32:]).hex() for file in files}, {row["digest"] for row in rows})
+    expect("what was told meanwhile", (len(wrong), len(levels)), (0, ASKED + 3))
+    builder, told = threading.Thread(target=lambda: told.append(refused(levels.build))), []
+    builder.start()
+    while levels._draft is None and builder.is_alive():
+        time.sleep(0.001)
+    levels.close()
+    builder.join()
+    expect("an object that is closed while it is built", (told, len(levels)), (["59 NotYet"], 0))
 
 
 # ---- refusals
@@ -234,8 +337,7 @@ def try_numbers(levels):
     sys.unraisablehook = sys.__unraisablehook__
     expect("a board above all levels", refused(lambda: levels.entry([25] + [0] * 11)), "59 NotYet")
     expect("the wheel's version", wheel_of_awari.version(), awari.version())
-    with open(TOP / "docs" / "levels.csv", newline="") as table:
-        expect("the greatest limit", awari._GREATEST_LIMIT, max(int(row["limit"]) for row in csv.DictReader(table)))
+    expect("the greatest limit", awari._GREATEST_LIMIT, max(int(row["limit"]) for row in rows_of_levels()))
     for name in ("package.json", "rust/Cargo.toml"):
         found = re.search(r'^ *"?version"?\W+([0-9.]+)"', (TOP / "bindings" / name).read_text(), re.MULTILINE)
         expect(f"the version of {name}", found[1], awari.version())
@@ -376,6 +478,10 @@ def main(folder):
         with awari.Levels(folder) as levels:
             try_threads(levels)
             try_numbers(levels)
+            try_drafts(levels)
+        try_built(Path(name), folder)
+        try_slices(folder)
+        try_builders(folder)
         try_folders(Path(name), folder)
         try_wrong_files(Path(name), folder)
         try_given_back(Path(name), folder)
