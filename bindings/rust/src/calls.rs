@@ -54,6 +54,26 @@ impl PlainFile {
 }
 
 #[repr(C)]
+#[derive(Default)]
+pub(crate) struct PlainDraft {
+    pub(crate) boards: u64,
+    pub(crate) gain: u8,
+    pub(crate) settled: bool,
+}
+
+#[repr(C)]
+#[derive(Default)]
+pub(crate) struct PlainCounts {
+    pub(crate) won: u32,
+    pub(crate) even: u32,
+    pub(crate) lost: u32,
+    pub(crate) limit: u32,
+}
+
+/// A call that tells the moves of a line.
+pub(crate) type LineCall = unsafe extern "C" fn(*mut Handle, *const [u8; 12], *mut u8, usize, *mut usize) -> u8;
+
+#[repr(C)]
 pub(crate) struct Sentence {
     pub(crate) text: *const c_char,
     pub(crate) size: usize,
@@ -87,6 +107,17 @@ extern "C" {
         room: usize,
         moves: *mut usize,
     ) -> u8;
+    pub(crate) fn awari_longest_line(
+        handle: *mut Handle,
+        pits: *const [u8; 12],
+        out: *mut u8,
+        room: usize,
+        moves: *mut usize,
+    ) -> u8;
+    pub(crate) fn awari_counts(handle: *mut Handle, level: u8, out: *mut PlainCounts) -> u8;
+    pub(crate) fn awari_begin(handle: *mut Handle) -> u8;
+    pub(crate) fn awari_spread(handle: *mut Handle, boards: usize, out: *mut PlainDraft) -> u8;
+    pub(crate) fn awari_finish(handle: *mut Handle, file: *mut u8, len: usize) -> u8;
     pub(crate) fn awari_share_with(from: *mut Handle, to: *mut Handle) -> u8;
     pub(crate) fn awari_close(handle: *mut Handle);
     pub(crate) fn awari_probe_file(bytes: *const u8, len: usize, pits: *const [u8; 12], out: *mut PlainEntry) -> u8;

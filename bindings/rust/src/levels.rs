@@ -2,8 +2,9 @@
 
 use crate::boards::Board;
 use crate::calls::{
-    awari_add_level, awari_close, awari_levels, awari_line, awari_probe, awari_probe_many, awari_probe_moves,
-    awari_probe_value, awari_share_with, Handle, PlainEntry, PlainFault, PlainMove,
+    awari_add_level, awari_close, awari_counts, awari_levels, awari_line, awari_longest_line, awari_probe,
+    awari_probe_many, awari_probe_moves, awari_probe_value, awari_share_with, Handle, LineCall, PlainCounts,
+    PlainEntry, PlainFault, PlainMove,
 };
 use crate::files::{files_of, READ};
 use crate::refusals::{refused, refused_with, Refusal};
@@ -36,8 +37,21 @@ pub struct Move {
     pub distance: u32,
 }
 
+/// What the boards of a level are for the mover.
+#[derive(Clone, Copy, Debug, PartialEq, Eq)]
+pub struct Counts {
+    /// How many are won.
+    pub won: u32,
+    /// How many are worth 0.
+    pub even: u32,
+    /// How many are lost.
+    pub lost: u32,
+    /// The greatest distance.
+    pub limit: u32,
+}
+
 /// The levels of a folder, each verified: level 0 up to the first whose file is not there. So what they say
-/// is right.
+/// is right. The next one is built by [`Levels::build`].
 ///
 /// Threads may ask one `Levels` at once; then they wait for each other. [`Levels::share`] gives each thread
 /// one of its own over the same levels, and then none waits.
@@ -64,7 +78,7 @@ pub struct Move {
 /// ```
 pub struct Levels {
     // It is not moved, as the library asks.
-    handle: Mutex<Box<Handle>>,
+    pub(crate) handle: Mutex<Box<Handle>>,
 }
 
 // SAFETY: a handle may be used by any thread, by one at a time, which the lock sees to.
@@ -73,6 +87,11 @@ unsafe impl Send for Levels {}
 unsafe impl Sync for Levels {}
 
 impl Levels {
+    /// No level yet. [`Levels::build`] puts level 0 on, and so on.
+    pub fn start() -> Levels {
+        Levels { handle: Mutex::new(Box::new(Handle::CLOSED)) }
+    }
+
     /// Reads and verifies the levels of a folder. Refused as 80 to 84 or 86; as 82 also if the folder has no
     /// level 0. It takes three bytes a board, and for a time the room of a file.
     pub fn open(folder: impl AsRef<Path>) -> Result<Levels, Refusal> {
@@ -81,16 +100,12 @@ impl Levels {
 
     /// The same, and levels of more than `most` stones are not read.
     pub fn open_to(folder: impl AsRef<Path>, most: u8) -> Result<Levels, Refusal> {
-        let levels = Levels::closed();
+        let levels = Levels::start();
         for file in files_of(folder.as_ref(), most) {
             let (level, file) = file?;
             levels.add(&bytes_of(file, level)?)?;
         }
         Ok(levels)
-    }
-
-    fn closed() -> Levels {
-        Levels { handle: Mutex::new(Box::new(Handle::CLOSED)) }
     }
 
     fn handle(&self) -> MutexGuard<'_, Box<Handle>> {
@@ -172,15 +187,58 @@ impl Levels {
         Ok(Board::of_level(level).map(told))
     }
 
+    /// What the boards of a level come to. Refused as 59 if it is not there. Takes no memory.
+    ///
+    /// ```
+    /// use awari::{Counts, Levels, Refusal};
+    ///
+    /// # fn main() -> Result<(), Refusal> {
+    /// # let folder = concat!(env!("CARGO_MANIFEST_DIR"), "/../../examples/levels");
+    /// let levels = Levels::open(folder)?;
+    /// assert_eq!(levels.counts(2)?, Counts { won: 24, even: 13, lost: 41, limit: 9 });
+    /// assert_eq!(levels.counts(7), Err(Refusal::NotYet));
+    /// # Ok(())
+    /// # }
+    /// ```
+    pub fn counts(&self, level: u8) -> Result<Counts, Refusal> {
+        let mut found = PlainCounts::default();
+        // SAFETY: the library writes into what is found.
+        refused(unsafe { awari_counts(&mut **self.handle(), level, &mut found) })?;
+        let PlainCounts { won, even, lost, limit } = found;
+        Ok(Counts { won, even, lost, limit })
+    }
+
     /// The play by the plans of both sides, to its first outcome, which is the board's value. Refused as 59
     /// or 84.
     pub fn line(&self, board: &Board) -> Result<Vec<u8>, Refusal> {
+        self.line_by(awari_line, board)
+    }
+
+    /// The play in which the side that gains goes by its plans, and the other holds out as long as it can: as many
+    /// moves as the distance. Refused as 59 or 84.
+    ///
+    /// ```
+    /// # use awari::{Board, Levels, Refusal};
+    /// # fn main() -> Result<(), Refusal> {
+    /// # let folder = concat!(env!("CARGO_MANIFEST_DIR"), "/../../examples/levels");
+    /// let levels = Levels::open(folder)?;
+    /// let board: Board = "1,1,1,1,0,0/0,0,0,1,0,1".parse()?;
+    /// assert_eq!(levels.line(&board)?, [0, 3, 3, 4, 1, 5]);
+    /// assert_eq!(levels.longest_line(&board)?, [0, 3, 3, 5, 0, 4, 2, 5]);
+    /// # Ok(())
+    /// # }
+    /// ```
+    pub fn longest_line(&self, board: &Board) -> Result<Vec<u8>, Refusal> {
+        self.line_by(awari_longest_line, board)
+    }
+
+    fn line_by(&self, call: LineCall, board: &Board) -> Result<Vec<u8>, Refusal> {
         let mut moves = vec![0; 64];
         loop {
             let mut count = 0;
             // SAFETY: the library reads twelve bytes, and writes as many moves as there is room for.
             refused(unsafe {
-                awari_line(&mut **self.handle(), board.pits(), moves.as_mut_ptr(), moves.len(), &mut count)
+                call(&mut **self.handle(), board.pits(), moves.as_mut_ptr(), moves.len(), &mut count)
             })?;
             let fits = count <= moves.len();
             moves.resize(count, 0);
@@ -190,9 +248,9 @@ impl Levels {
         }
     }
 
-    /// The same levels for another thread. None is copied. Refused as 84.
+    /// The same levels for another thread. None is copied, and a level that was begun is not shared. Refused as 84.
     pub fn share(&self) -> Result<Levels, Refusal> {
-        let shared = Levels::closed();
+        let shared = Levels::start();
         // SAFETY: the two handles are apart.
         refused(unsafe { awari_share_with(&mut **self.handle(), &mut **shared.handle()) })?;
         Ok(shared)

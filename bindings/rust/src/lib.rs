@@ -16,13 +16,14 @@
 //! # }
 //! ```
 //!
-//! [`Levels`] reads and verifies files, and keeps three bytes a board. [`Mapped`] leaves large levels in mapped
+//! [`Levels`] reads and verifies files, and keeps three bytes a board. It builds the next level too. [`Mapped`] leaves large levels in mapped
 //! files: it opens at once, and verifies nothing. Any number of threads may ask one of either kind. At `Levels`
 //! they wait for each other, and at `Mapped` they don't. `examples/engine.rs` is a search in eight threads.
 //!
 //! The library is `libawari.a`: see `build.rs` for where it is looked for. It runs on x86-64 Linux.
 
 mod boards;
+mod building;
 mod calls;
 mod files;
 mod levels;
@@ -31,7 +32,8 @@ mod mapped;
 mod refusals;
 
 pub use boards::{Board, Played};
-pub use levels::{Entry, Levels, Move};
+pub use building::Draft;
+pub use levels::{Counts, Entry, Levels, Move};
 pub use map::Map;
 pub use mapped::Mapped;
 pub use refusals::Refusal;

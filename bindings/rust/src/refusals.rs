@@ -25,12 +25,18 @@ pub enum Refusal {
     Ended,
     /// 20: the file is as long as another level's.
     WrongLevel,
-    /// 59: the board's level is not there.
+    /// 51: all levels are there.
+    TooHigh,
+    /// 53: memory has run out while a level is built.
+    MemoryOfLevel,
+    /// 59: the board's level is not there; or no level was begun, or not all its gains are closed.
     NotYet,
     /// 60: the file is shorter than it should be.
     Truncated,
     /// 67: the file is longer than it should be.
     Trailing,
+    /// 70: the room for a file has another length.
+    Write,
     /// 80: the file of the level is over another file than the one below it.
     Below { level: u8 },
     /// 81: the file of the level is none; `inner` is the number of what is wrong, 60 to 68.
@@ -59,9 +65,12 @@ impl Refusal {
             Refusal::MustFeed => 6,
             Refusal::Ended => 7,
             Refusal::WrongLevel => 20,
+            Refusal::TooHigh => 51,
+            Refusal::MemoryOfLevel => 53,
             Refusal::NotYet => 59,
             Refusal::Truncated => 60,
             Refusal::Trailing => 67,
+            Refusal::Write => 70,
             Refusal::Below { .. } => 80,
             Refusal::File { .. } => 81,
             Refusal::Open { .. } => 82,
@@ -89,9 +98,12 @@ impl Refusal {
             6 => Refusal::MustFeed,
             7 => Refusal::Ended,
             20 => Refusal::WrongLevel,
+            51 => Refusal::TooHigh,
+            53 => Refusal::MemoryOfLevel,
             59 => Refusal::NotYet,
             60 => Refusal::Truncated,
             67 => Refusal::Trailing,
+            70 => Refusal::Write,
             80 => Refusal::Below { level },
             81 => Refusal::File { level, inner },
             82 => Refusal::Open { level },

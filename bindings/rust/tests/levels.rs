@@ -16,6 +16,7 @@ fn each_board_is_worth_its_best_move() {
         for (board, entry) in boards.iter().zip(entries) {
             assert_eq!(levels.entry(board), Ok(entry));
             assert_eq!(levels.value(board), Ok(entry.value));
+            assert_eq!(levels.longest_line(board).unwrap().len(), entry.distance as usize);
             let moves = levels.moves(board).unwrap();
             assert!(moves.iter().map(|found| found.pit).eq(board.legal().filter(|_| entry.plan.is_some())));
             let best = moves.iter().map(|found| found.value).max();
@@ -85,6 +86,8 @@ fn boards_without_a_level_are_refused() {
     let board = Board::new([1; 12]).unwrap();
     assert_eq!(levels.entry(&board), Err(Refusal::NotYet));
     assert_eq!(levels.line(&board), Err(Refusal::NotYet));
+    assert_eq!(levels.longest_line(&board), Err(Refusal::NotYet));
+    assert_eq!((levels.counts(3), levels.counts(255)), (Err(Refusal::NotYet), Err(Refusal::NotYet)));
     assert_eq!(Board::new([5; 12]), Err(Refusal::TooMany));
     assert_eq!(board.play(6), Err(Refusal::NoPit));
 }
