@@ -210,6 +210,48 @@ static void tell_line(void) {
     say(" outcome %d", entry.value);
 }
 
+static void tell_longest(void) {
+    uint8_t pits[12], line[ROOM];
+    unsigned stones;
+    size_t moves;
+    awari_entry entry;
+    if (!read_board(pits, &stones)) return;
+    if (refused(awari_longest_line(&handle, pits, line, sizeof line, &moves), NULL)) return;
+    tell_pits(line, moves);
+    agree(!awari_probe(&handle, pits, &entry) && entry.distance == moves, "the distance");
+}
+
+/* ---- levels */
+
+static void tell_counts(void) {
+    awari_level_counts counts;
+    uint8_t level = (uint8_t)atoi(word[2]);
+    if (refused(awari_counts(&handle, level, &counts), NULL)) return;
+    say("%u %u %u %u", counts.won, counts.even, counts.lost, counts.limit);
+    agree(counts.won + counts.even + counts.lost == awari_size(level), "the size");
+}
+
+/* Builds the next level in a handle of its own, by small slices, and says the digest of its file. */
+static void tell_build(void) {
+    awari_handle own = AWARI_CLOSED;
+    awari_draft draft = {0, 0, false};
+    uint8_t level, digest[32], *file;
+    uint8_t answer = awari_share(&handle, &own);
+    size_t len = awari_file_len(level = awari_levels(&own));
+    file = (uint8_t *)malloc(len);
+    if (!answer) answer = file ? awari_begin(&own) : (uint8_t)AWARI_MEMORY_OF_LEVEL;
+    while (!answer && !draft.settled) answer = awari_spread(&own, 1000, &draft);
+    if (!answer) answer = awari_finish(&own, file, len);
+    if (!refused(answer, NULL)) {
+        say("%d ", level);
+        for (size_t i = len - 32; i < len; i++) say("%02x", file[i]);
+        agree(!awari_check_file(file, len, file + 20, digest), "a check of the file");
+        agree(awari_levels(&own) == level + 1 && awari_levels(&handle) == level, "the number of levels");
+    }
+    free(file);
+    awari_close(&own);
+}
+
 static void tell_board(const uint8_t pits[12]) {
     for (int pit = 0; pit < 12; pit++) say(pit == 0 ? "%d" : pit == 6 ? "/%d" : ",%d", pits[pit]);
 }
@@ -270,14 +312,19 @@ static void tell_map(void) {
     awari_unmap(&files);
 }
 
+/* what a call asks */
+enum { NONE, EITHER, VERIFIED };
+
 static const struct {
     const char *name;
-    bool of_levels;
+    int asks;
     void (*tell)(void);
 } calls[] = {
-    {"open", false, tell_open},  {"map", false, tell_map},       {"check", true, tell_check}, {"entry", true, tell_entry},
-    {"moves", true, tell_moves}, {"line", true, tell_line},     {"play", false, tell_play},  {"legal", false, tell_legal},
-    {"rank", false, tell_rank},  {"board", false, tell_ranked}, {"size", false, tell_size},  {"sentence", false, tell_sentence},
+    {"open", NONE, tell_open},         {"map", NONE, tell_map},         {"check", EITHER, tell_check},
+    {"entry", EITHER, tell_entry},     {"moves", EITHER, tell_moves},   {"line", VERIFIED, tell_line},
+    {"longest", VERIFIED, tell_longest}, {"counts", VERIFIED, tell_counts}, {"build", VERIFIED, tell_build},
+    {"play", NONE, tell_play},         {"legal", NONE, tell_legal},     {"rank", NONE, tell_rank},
+    {"board", NONE, tell_ranked},      {"size", NONE, tell_size},       {"sentence", NONE, tell_sentence},
 };
 
 /* Takes the names out of an answer that has numbers: C has none. */
@@ -308,8 +355,8 @@ static int ask(const char *row) {
     size_t call = 0, count = sizeof calls / sizeof calls[0];
     while (call < count && strcmp(calls[call].name, word[1])) call++;
     if (call == count || !strcmp(answer, "TypeError")) return 2;
-    if (calls[call].of_levels) open_place(word[0]);
-    if (!strcmp(word[1], "line") && !is_verified) return 2;
+    if (calls[call].asks != NONE) open_place(word[0]);
+    if (calls[call].asks == VERIFIED && !is_verified) return 2;
     told[0] = 0;
     calls[call].tell();
     if (!strcmp(told, answer)) return 0;

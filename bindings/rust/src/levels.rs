@@ -237,9 +237,7 @@ impl Levels {
         loop {
             let mut count = 0;
             // SAFETY: the library reads twelve bytes, and writes as many moves as there is room for.
-            refused(unsafe {
-                call(&mut **self.handle(), board.pits(), moves.as_mut_ptr(), moves.len(), &mut count)
-            })?;
+            refused(unsafe { call(&mut **self.handle(), board.pits(), moves.as_mut_ptr(), moves.len(), &mut count) })?;
             let fits = count <= moves.len();
             moves.resize(count, 0);
             if fits {

@@ -108,7 +108,8 @@ fn others_ask_while_a_level_is_built() {
     let shared: Vec<_> = (0..4).map(|_| levels.share().unwrap()).collect();
     thread::scope(|scope| {
         for own in shared {
-            scope.spawn(move || (0..10_000).for_each(|_| assert_eq!((own.value(&board), own.len()), (Ok(4), EXAMPLES))));
+            scope
+                .spawn(move || (0..10_000).for_each(|_| assert_eq!((own.value(&board), own.len()), (Ok(4), EXAMPLES))));
         }
         assert_eq!(levels.build().map(|file| digest_of(&file)), Ok(row_of(7)[6].clone()));
     });
