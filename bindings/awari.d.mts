@@ -34,6 +34,8 @@ export class Refused extends Error {
 export class Levels {
   static start(module?: BufferSource | WebAssembly.Module): Promise<Levels>;
   constructor(instance: WebAssembly.Instance);
+  /** The version of the module. */
+  get version(): string;
   /** How many levels there are. */
   get length(): number;
   /** How many bytes of memory the module has taken. */
@@ -55,9 +57,12 @@ export class Levels {
   check(file: ArrayBufferLike | ArrayBufferView, below: ArrayBufferLike | ArrayBufferView): Uint8Array;
   /** What a number that was answered means, for a person. */
   sentence(number: number): string;
+  legal(board: Board): number[];
   play(board: Board, pit: number): { board: number[]; captures: number };
   rank(board: Board): { level: number; rank: number };
   board(level: number, rank: number): number[];
   size(level: number): number;
+  /** The same levels in an object of their own. */
+  share(): Levels;
   close(): void;
 }

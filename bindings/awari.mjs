@@ -18,6 +18,7 @@
 
 const PITS = 12;
 const HIGHEST_LEVEL = 24;
+const MOST_STONES = 48;
 const NO_PLAN = 255;
 const HANDLE_BYTES = 16;
 const ENTRY_BYTES = 8;
@@ -104,6 +105,12 @@ export class Levels {
     this.#pits = this.#room(PITS);
     this.#out = this.#room(OUT_BYTES);
     this.#bytes(this.#handle, HANDLE_BYTES).fill(0);
+  }
+
+  /** The version of the module. */
+  get version() {
+    const number = this.#calls.awari_version();
+    return [10000, 100, 1].map(part => Math.floor(number / part) % 100).join(".");
   }
 
   /** How many levels there are. Boards with fewer stones can be looked up. */
@@ -310,6 +317,18 @@ export class Levels {
   }
 
   /**
+   * The pits that can be played, ascending. It is refused as 1 to 3.
+   * @param {Board} board
+   * @returns {number[]}
+   */
+  legal(board) {
+    const place = this.#board(board);
+    if (this.#bytes(place, PITS).reduce((sum, stones) => sum + stones) > MOST_STONES) throw new Refused(3);
+    const legal = this.#calls.awari_legal(place);
+    return [0, 1, 2, 3, 4, 5].filter(pit => (legal >> pit) & 1);
+  }
+
+  /**
    * The board that a move leaves, as the other player sees it, and what it captures. It is refused as 1 to 7.
    * @param {Board} board
    */
@@ -342,6 +361,17 @@ export class Levels {
   size(level) {
     if (!Number.isInteger(level) || level < 0 || level > HIGHEST_LEVEL) return 0;
     return this.#calls.awari_size(level) >>> 0;
+  }
+
+  /**
+   * The same levels in an object of their own, which is closed by itself; a level that was begun is not shared. None
+   * is copied. It is refused as 84.
+   * @returns {Levels}
+   */
+  share() {
+    const shared = new Levels({ exports: this.#calls });
+    expect(this.#calls.awari_share_with(this.#handle, shared.#handle));
+    return shared;
   }
 
   /** Forgets all levels, and one that was begun. */

@@ -39,7 +39,7 @@ else:
 
 __all__ = [
     "HIGHEST_LEVEL", "NAMES", "NO_PLAN", "PITS", "Board", "Counts", "Draft", "Entry", "Levels", "Line", "Mapped", "Move",
-    "Refused", "Replies", "Tally", "boards", "play", "rank_many", "size", "version",
+    "Refused", "Replies", "Tally", "boards", "legal", "play", "rank_many", "size", "version",
 ]
 
 HIGHEST_LEVEL = 24
@@ -329,6 +329,20 @@ def play(board: Board, pit: int) -> tuple[list[int], int]:
     _read(board, at.pits, at.pits_at)
     _expect(_awari.awari_play(at.pits_at, pit if 0 <= pit <= 255 else 255, at.after_at, at.byte_at))
     return list(at.after.raw), at.byte.value
+
+
+def legal(board: Board) -> list[int]:
+    """The pits that can be played, ascending.
+
+    >>> legal("1,0,0,0,0,1/1,0,1,0,0,0")
+    [0, 5]
+    """
+    at = _scratch
+    _read(board, at.pits, at.pits_at)
+    if sum(at.pits.raw) > 48:
+        raise Refused(3)
+    bits = _awari.awari_legal(at.pits_at)
+    return [pit for pit in range(PITS // 2) if bits >> pit & 1]
 
 
 def size(level: int) -> int:
@@ -898,10 +912,10 @@ def _breaks(rule: int, pits: list[int]) -> Refused:
 def _broken_plan(pits: list[int], plan: int | None) -> int | None:
     """The rule that a plan breaks by itself, V2 or V3, if it breaks one."""
     _scratch.pits.raw = bytes(pits)
-    legal = _awari.awari_legal(_scratch.pits_at)
-    if not legal:
+    bits = _awari.awari_legal(_scratch.pits_at)
+    if not bits:
         return None if plan is None else 2
-    return None if plan is not None and plan < 8 and legal >> plan & 1 else 3
+    return None if plan is not None and plan < 8 and bits >> plan & 1 else 3
 
 
 def _broken_rule(pits: list[int], entry: Entry, moves: list[Move]) -> int | None:

@@ -104,6 +104,7 @@ OF_VERIFIED = {"build": built}
 OF_FILES = {"check": checked, "limit": lambda levels, level: str(levels.limit(int(level)))}
 OF_NONE = {
     "play": lambda board, pit: named(*awari.play(board, int(pit))),
+    "legal": lambda board: words(awari.legal(board)) or "none",
     "size": lambda level: str(awari.size(int(level)) if int(level) < 25 else 0),
     "sentence": lambda number: awari.Refused(int(number)).sentence,
     "rank": lambda board: words(int(number[0]) for number in awari.rank_many([board])),

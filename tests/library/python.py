@@ -335,6 +335,7 @@ def try_numbers(levels):
     expect("no folder at all", [refused(kind).split()[0] for kind in (awari.Levels, awari.Levels.mapped)], ["TypeError"] * 2)
     expect("an object that was not made goes in silence", ignored, [])
     sys.unraisablehook = sys.__unraisablehook__
+    expect("too many stones", refused(lambda: awari.legal([5] * 12)), "3 TooMany")
     expect("a board above all levels", refused(lambda: levels.entry([25] + [0] * 11)), "59 NotYet")
     expect("the wheel's version", wheel_of_awari.version(), awari.version())
     expect("the greatest limit", awari._GREATEST_LIMIT, max(int(row["limit"]) for row in rows_of_levels()))

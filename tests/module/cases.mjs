@@ -4,6 +4,7 @@
 //
 // ROOM has the folders that tests/library/folders.py makes. The module takes the bytes of files, so what a folder
 // alone can refuse is left out. It prints each row whose answer is another one, and ends with `N passed, M failed`.
+import { createHash } from "node:crypto";
 import { existsSync, readFileSync } from "node:fs";
 import { join } from "node:path";
 import { Levels, Refused } from "../../bindings/awari.mjs";
@@ -24,8 +25,9 @@ async function opened(place) {
 
 const CALLS = {
   entry: (levels, board) => {
-    const { value, plan, distance } = levels.entry(board);
-    return `${value} ${plan ?? "-"} ${distance}`;
+    const { value, plan, distance } = levels.entry(board), [one] = levels.probeMany([board]);
+    const isSame = levels.value(board) === value && one.plan === plan && one.distance === distance && one.value === value;
+    return `${value} ${plan ?? "-"} ${distance}${isSame ? "" : ", and otherwise by another call"}`;
   },
   moves: (levels, board) => list(levels.moves(board), it => `${it.pit} ${it.captures} ${it.value} ${it.distance}`),
   line: (levels, board) => {
@@ -34,6 +36,15 @@ const CALLS = {
   },
   longest: (levels, board) => pits(levels.longestLine(board)),
   counts: (levels, level) => Object.values(levels.counts(Number(level))).join(" "),
+  build: levels => {
+    const own = levels.share(), level = own.length, file = own.build();
+    if (own.length !== level + 1 || levels.length !== level) return "another number of levels";
+    const digest = Buffer.from(file.subarray(-32)).toString("hex");
+    own.close();
+    return createHash("sha256").update(file.subarray(0, -32)).digest("hex") === digest ? `${level} ${digest}` : "another digest";
+  },
+  legal: (_, board) => pits(none.legal(board)),
+  sentence: (_, number) => none.sentence(Number(number)),
   play: (_, board, pit) => {
     const { board: after, captures } = none.play(board, Number(pit));
     return `${word(after)} ${captures}`;
@@ -65,9 +76,10 @@ const places = new Map();
 /** The levels of a place: none if they are refused. */
 async function levelsOf(place) {
   if (!places.has(place)) {
-    const levels = place === "-" ? none : await opened(place === "closed" ? "levels" : place).catch(() => null);
-    if (place === "closed") levels.close();
-    places.set(place, levels);
+    const isOther = place === "shared" || place === "closed";
+    const levels = place === "-" ? none : await opened(isOther ? "levels" : place).catch(() => null);
+    places.set(place, place === "shared" ? levels.share() : levels);
+    if (isOther) levels.close();
   }
   return places.get(place);
 }
@@ -76,7 +88,7 @@ async function levelsOf(place) {
 async function answers({ place, call, words, answer }) {
   if (call === "open" && words.length === 0 && place !== "NULL" && !answer.startsWith("82"))
     return [await opened(place).then(levels => String(levels.length), fault => fault.message)];
-  if (!(call in CALLS) || place === "shared") return [];
+  if (!(call in CALLS)) return [];
   const levels = await levelsOf(place);
   return levels === null ? [] : asked(words, answer).map(given => told(() => CALLS[call](levels, ...given)));
 }

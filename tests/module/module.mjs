@@ -323,6 +323,8 @@ function compareOtherCalls(levels, boards) {
   expectRefused(60, () => levels.entryIn(files[2].subarray(1), levels.board(2, 0)));
   expectRefused(20, () => levels.movesIn([files[0], files[0]], levels.board(1, 0)));
   expectRefused(59, () => levels.movesIn([], levels.board(0, 0)));
+  expectRefused(3, () => levels.legal(Array(12).fill(5)));
+  expect("the version", levels.version === JSON.parse(readFileSync(new URL("../../bindings/package.json", import.meta.url))).version);
   expect("the sentence of 3", levels.sentence(3) === "A board has at most 48 stones" && levels.sentence(255).length > 9);
 }
 
@@ -363,7 +365,11 @@ compareLines(levels, randomBoards(levels, 50));
 compareLongestLines(levels, randomBoards(levels, 50));
 compareCounts(levels);
 compareOtherCalls(levels, randomBoards(levels, 100));
+const shared = levels.share();
 levels.close();
 expect("closed, it has levels", levels.length === 0);
+expect("what shares them has none", shared.length === TOP + 1 && shared.entry(Array(12).fill(0)).plan === null);
+shared.begin();
+expectRefused(59, () => shared.share().spread(), "a level that was begun is shared");
 if (faults > FAULTS_SHOWN) console.log(`${faults} faults`);
 process.exit(faults ? 1 : 0);
