@@ -115,76 +115,124 @@ def try_built(room, folder):
         expect("levels that were built, when they are read", (len(levels), levels.entry(BOARD)), (BUILT + 1, entry))
 
 
+def sliced(folder, level, boards):
+    """A level by slices of about so many boards: what each tells of it, and the digest of its file."""
+    with awari.Levels(folder, level - 1) as levels:
+        levels.begin()
+        drafts = [levels.spread(boards)]
+        while not drafts[-1].settled:
+            drafts.append(levels.spread(boards))
+            expect("how many levels there are meanwhile", len(levels), level)
+        return drafts, levels.finish()[-32:].hex()
+
+
 def try_slices(folder):
-    """A level by slices of many sizes: how far it is, and its bytes."""
-    calls = {}
-    for slice_of, level in ((1, 6), (9, 4), (5000, 6), (2**70, 6)):
-        row, drafts = rows_of_levels()[level], []
-        with awari.Levels(folder, level - 1) as levels:
-            levels.begin()
-            while not drafts or not drafts[-1].settled:
-                drafts.append(levels.spread(slice_of))
-                expect("how many levels there are meanwhile", len(levels), level)
-            file = levels.finish()
-        expect(f"level {level} by slices", file[-32:].hex(), row["digest"])
+    """A level by slices of many sizes: how far it is, and its file."""
+    calls = []
+    for level, boards in ((6, 1), (6, 5000), (6, 2**70), (4, 9)):
+        row, (drafts, digest) = rows_of_levels()[level], sliced(folder, level, boards)
+        expect(f"level {level} by slices of {boards}", digest, row["digest"])
         expect("the gains that are opened", sorted({draft.gain for draft in drafts}), [*range(1, level + 1)])
         ordered = all(one.boards <= other.boards and one.gain >= other.gain for one, other in zip(drafts, drafts[1:]))
-        expect("boards only rise, and gains only fall", ordered, True)
+        expect("whether boards only rise, and gains only fall", ordered, True)
         # a board that is worth 0 is never spread
         expect("how many boards were spread", drafts[-1].boards, int(row["won"]) + int(row["lost"]))
-        calls[slice_of] = len(drafts)
-    expect("a larger slice takes fewer calls", calls[1] > calls[5000] >= calls[2**70], True)
+        calls.append(len(drafts))
+    expect("whether larger slices are fewer", calls[0] > calls[1] >= calls[2], True)
 
 
-def try_drafts(levels):
-    """What is not begun or not settled is refused, and what was begun is given up by `close`."""
-    number, shared = len(levels), levels.share()
+def finish(levels):
+    """Puts the level on that was begun: the digest of its file."""
+    while not levels.spread(5000).settled:
+        pass
+    return levels.finish()[-32:].hex()
+
+
+def try_refused_drafts(levels):
+    """What is not begun or not settled is refused, and no slice is of less than a board."""
     for call in (levels.spread, levels.finish):
         expect("a level that was not begun", refused(call), "59 NotYet")
     levels.begin()
+    for boards, wanted in ((0, "ValueError a slice is 1"), (-1, "ValueError a slice is 1"), (1.5, "TypeError a slice is a whole")):
+        expect(f"a slice of {boards}", refused(lambda: levels.spread(boards)).startswith(wanted), True)
     levels.spread(5000)
     levels.begin()
     expect("what is begun anew", levels.spread(1).boards, 0)
     expect("a level whose gains are not closed", refused(levels.finish), "59 NotYet")
     expect("a level that was begun is not shared", refused(levels.share().spread), "59 NotYet")
-    for wrong, kind in ((0, "ValueError a slice is 1"), (-1, "ValueError a slice is 1"), (1.5, "TypeError a slice is a whole")):
-        expect(f"a slice of {wrong}", refused(lambda: levels.spread(wrong)).startswith(kind), True)
-    expect("another level is built meanwhile", (len(shared.build()), len(shared), len(levels)), (84 + 6 * awari.size(number), number + 1, number))
-    while not levels.spread().settled:
-        pass
-    levels.finish()
-    expect("a level that is put on", (len(levels), refused(levels.spread), refused(levels.finish)), (number + 1, "59 NotYet", "59 NotYet"))
+
+
+def try_drafts(folder):
+    """A level that was begun stays with its object, is put on once, and is given up by `close`."""
+    levels = awari.Levels(folder, ASKED - 1)
+    shared, digests = levels.share(), [row["digest"] for row in rows_of_levels()]
+    try_refused_drafts(levels)
+    expect("another builds the level meanwhile", (shared.build()[-32:].hex(), len(shared), len(levels)), (digests[ASKED], ASKED + 1, ASKED))
+    expect("the level that was begun", (finish(levels), len(levels)), (digests[ASKED], ASKED + 1))
+    expect("what was put on", (refused(levels.spread), refused(levels.finish)), ("59 NotYet", "59 NotYet"))
+    levels.begin()
+    draft = levels._draft
+    levels.build()
+    levels._draft = draft  # as a thread has it that began before the other was through
+    expect("what another thread has put on", (refused(lambda: finish(levels)), len(levels)), ("59 NotYet", ASKED + 2))
     levels.begin()
     levels.close()
     expect("a level that was given up", (refused(levels.spread), refused(levels.finish), len(levels)), ("59 NotYet", "59 NotYet", 0))
 
 
-def try_builders(folder):
-    """Threads that build at once do so in turn. Others ask them meanwhile. An object that is closed stays closed."""
-    levels, files, wrong = awari.Levels(folder, ASKED - 1), [], []
-    entry, builders = levels.entry(BOARD), [threading.Thread(target=lambda: files.append(levels.build())) for _ in range(3)]
-
-    def ask():
-        while any(thread.is_alive() for thread in builders):
-            if levels.entry(BOARD) != entry or not ASKED <= len(levels) <= ASKED + 3:
-                wrong.append(len(levels))
-
-    threads = [*builders, *(threading.Thread(target=ask) for _ in range(THREADS))]
+def run_together(calls):
+    """Runs each call in a thread of its own, and waits for all."""
+    threads = [threading.Thread(target=call) for call in calls]
     for thread in threads:
         thread.start()
     for thread in threads:
         thread.join()
-    rows = rows_of_levels()[ASKED : ASKED + 3]
-    expect("levels of three builders", sorted(map(len, files)), sorted(84 + 6 * int(row["boards"]) for row in rows))
-    expect("their digests", {bytes(file[-32:]).hex() for file in files}, {row["digest"] for row in rows})
-    expect("what was told meanwhile", (len(wrong), len(levels)), (0, ASKED + 3))
-    builder, told = threading.Thread(target=lambda: told.append(refused(levels.build))), []
-    builder.start()
-    while levels._draft is None and builder.is_alive():
-        time.sleep(0.001)
-    levels.close()
-    builder.join()
-    expect("an object that is closed while it is built", (told, len(levels)), (["59 NotYet"], 0))
+
+
+def try_builders(folder):
+    """Threads that build at once do so in turn, each a level of its own. Others ask the object meanwhile."""
+    levels, digests, wrong = awari.Levels(folder, ASKED - 1), [], []
+    entry, rows, gate = levels.entry(BOARD), rows_of_levels()[ASKED : ASKED + 3], threading.Barrier(3)
+
+    def ask():
+        while len(levels) < ASKED + 3 and len(digests) + len(wrong) < 3:
+            if levels.entry(BOARD) != entry:
+                wrong.append("another entry")
+
+    def build():
+        gate.wait()
+        digests.append(refused(lambda: bytes(levels.build()[-32:]).hex()))
+
+    run_together([build] * 3 + [ask] * THREADS)
+    expect("levels of three builders", (sorted(digests), wrong, len(levels)), (sorted(row["digest"] for row in rows), [], ASKED + 3))
+
+
+def try_slices_in_threads(folder):
+    """Threads that build one level together, a slice each."""
+    told, row = [], rows_of_levels()[ASKED]
+    with awari.Levels(folder, ASKED - 1) as levels:
+        levels.begin()
+
+        def spread():
+            while not told or told[-1] is False:
+                told.append(refused(lambda: levels.spread(200).settled))
+
+        run_together([spread] * THREADS)
+        expect("slices in threads", ({*told}, levels.finish()[-32:].hex()), ({False, True}, row["digest"]))
+
+
+def try_closed_builds(folder):
+    """An object that another thread closes in the midst of a build has no level from then on."""
+    levels = awari.Levels(folder, ASKED - 1)
+    spread = levels.spread
+
+    def closed():
+        draft = spread()
+        run_together([levels.close])
+        return draft
+
+    levels.spread = closed
+    expect("an object that is closed while it is built", (refused(levels.build), len(levels)), ("59 NotYet", 0))
 
 
 # ---- refusals
@@ -479,10 +527,10 @@ def main(folder):
         with awari.Levels(folder) as levels:
             try_threads(levels)
             try_numbers(levels)
-            try_drafts(levels)
         try_built(Path(name), folder)
         try_slices(folder)
-        try_builders(folder)
+        for attempt in (try_drafts, try_builders, try_slices_in_threads, try_closed_builds):
+            attempt(folder)
         try_folders(Path(name), folder)
         try_wrong_files(Path(name), folder)
         try_given_back(Path(name), folder)
