@@ -634,7 +634,6 @@ class Levels(_Answers):
             if len(self) != level:  # it was closed, or another thread has put this level on
                 raise Refused(59)
             _expect(_awari.awari_share_with(draft._at, self._at))
-            self._draft = None
         return file
 
     def build(self) -> bytearray:
