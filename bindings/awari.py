@@ -1,9 +1,9 @@
 """Awari's endgame levels, by the library of awari.h: `pip install ./bindings`.
 
-    with Levels("levels") as levels:
-        print(levels.entry("1,0,0,0,0,0/0,0,1,0,0,0"))
-        for move in levels.moves("1,0,0,0,0,1/1,0,1,0,0,0"):
-            print(move)
+    >>> from awari import Levels
+    >>> with Levels("levels") as levels:
+    ...     levels.entry("1,0,0,0,0,0/0,0,1,0,0,0")
+    Entry(value=2, plan=0, distance=8)
 
 A board is its word, or the twelve numbers of its pits. `Levels` reads a folder and verifies each level,
 so what it says is right. `Levels.mapped` maps the files and verifies nothing. Its answers are the
@@ -13,7 +13,8 @@ A refusal is a `Refused`, with the number and the name of docs/FORMATS.md.
 Any number of threads may ask one object, of either kind. In an interpreter without a global lock give each
 thread a `share` of its own.
 
-The calls that give or take arrays need numpy. The rest needs nothing.
+The calls that give or take arrays need numpy. The rest needs nothing. The examples ask a folder with levels 0 to 6,
+where `levels` is `Levels("levels")`, and `mapped` is `Levels.mapped("levels")`.
 """
 from __future__ import annotations
 
@@ -26,7 +27,20 @@ import threading
 from math import comb
 from pathlib import Path
 from struct import Struct
-from typing import NamedTuple, Sequence, Union
+from typing import TYPE_CHECKING, Any, NamedTuple, Sequence, TypeVar, Union
+
+if TYPE_CHECKING:
+    from numpy.typing import ArrayLike, NDArray
+
+    _Array = NDArray[Any]
+else:
+    # Only the calls that need numpy load it.
+    ArrayLike = _Array = Any
+
+__all__ = [
+    "HIGHEST_LEVEL", "NAMES", "NO_PLAN", "PITS", "Board", "Counts", "Entry", "Levels", "Line", "Mapped", "Move",
+    "Refused", "Replies", "boards", "play", "rank_many", "size", "version",
+]
 
 HIGHEST_LEVEL = 24
 _LEVELS_ARE = f"a level is a whole number from 0 to {HIGHEST_LEVEL}"
@@ -39,7 +53,9 @@ NAMES = {
     68: "Read", 80: "Below", 81: "File", 82: "Open", 83: "Verify", 84: "Memory", 86: "Old",
 }
 
-Board = Union[str, Sequence[int]]
+Board = Union[str, Sequence[int], _Array]
+_Folder = Union[str, "os.PathLike[str]"]
+_Kind = TypeVar("_Kind", bound="_Answers")
 
 
 class Entry(NamedTuple):
@@ -90,6 +106,12 @@ class Refused(Exception):
     """A refusal: its number and name, and those of the fault inside it, if there is one.
 
     With 82 the `path` is what does not open: the folder, or a file of it.
+
+    >>> try:
+    ...     levels.entry("1,2,3")
+    ... except Refused as refusal:
+    ...     print(refusal.number, refusal.name)
+    1 Shape
     """
 
     def __init__(self, number: int, fault: _Fault | None = None, path: str | None = None):
@@ -100,16 +122,21 @@ class Refused(Exception):
         self.rank = fault.rank if fault and fault.rule else None
         super().__init__(self._text())
 
-    def __reduce__(self):
+    def __reduce__(self) -> tuple[type[Refused], tuple[int, _Fault | None, str | None]]:
         # An exception is made anew of its text, which is no number.
         return Refused, (self.number, self._fault, self.path)
 
     @property
     def sentence(self) -> str:
-        """What the refusal means, for a person."""
+        """What the refusal means, for a person.
+
+        >>> Refused(3).sentence
+        'A board has at most 48 stones'
+        """
         found = _Sentence()
         _awari.awari_text_of(self.number, ctypes.addressof(found))
-        return found.text.decode()
+        text: bytes = found.text
+        return text.decode()
 
     def _text(self) -> str:
         text = f"{self.number} {self.name}"
@@ -161,7 +188,7 @@ class _Scratch(threading.local):
 
 
 _AT, _SIZE, _BYTE = ctypes.c_void_p, ctypes.c_size_t, ctypes.c_uint8
-_CALLS = {
+_CALLS: dict[str, tuple[Any, list[Any]]] = {
     "awari_version": (ctypes.c_uint32, []),
     "awari_text_of": (None, [_BYTE, _AT]),
     "awari_parse": (_BYTE, [ctypes.c_char_p, _SIZE, _AT]),
@@ -177,7 +204,7 @@ _CALLS = {
     "awari_probe_file": (_BYTE, [_AT, _SIZE, _AT, _AT]),
     "awari_probe_moves_files": (_BYTE, [_AT, _SIZE, _AT, _AT]),
 }
-_LONG_CALLS = {
+_LONG_CALLS: dict[str, tuple[Any, list[Any]]] = {
     "awari_add_level": (_BYTE, [_AT, _AT, _SIZE, _AT]),
     "awari_probe_many": (_BYTE, [_AT, _AT, _SIZE, _AT, _SIZE, _AT]),
     "awari_check_file": (_BYTE, [_AT, _SIZE, _AT, _AT]),
@@ -190,9 +217,11 @@ def _library() -> tuple[ctypes.PyDLL, ctypes.CDLL]:
     A handle is for one call at a time. A short call keeps the interpreter's lock, so no thread comes between. A
     long one leaves it to other threads, and has a handle that no other thread knows.
     """
-    here = Path(__file__).resolve().parent
-    beside = [str(here / name) for name in ("libawari.so.0", "libawari.so") if (here / name).exists()]
-    path = os.environ.get("LIBAWARI") or (beside or ["libawari.so.0"])[0]
+    # An editable installation links to this file, and has a library of its own.
+    here = Path(__file__).resolve().parent, Path(__file__).parent
+    files = [place / name for place in here for name in ("libawari.so.0", "libawari.so")]
+    beside = [str(file) for file in files if file.exists()]
+    path = os.environ.get("LIBAWARI") or [*beside, "libawari.so.0"][0]
     try:
         short, long = ctypes.PyDLL(path), ctypes.CDLL(path)
     except OSError as error:
@@ -200,14 +229,19 @@ def _library() -> tuple[ctypes.PyDLL, ctypes.CDLL]:
             f"{error}: `pip install ./bindings` packs libawari.so.0 with this module, `bindings/make` puts it beside "
             "it, and the environment's LIBAWARI may name it"
         ) from None
-    for library, calls in ((short, _CALLS), (long, _LONG_CALLS)):
-        for name, (gives, takes) in calls.items():
-            try:
-                function = getattr(library, name)
-            except AttributeError:
-                raise ImportError(f"{path} has no {name}: it is of another version than this module") from None
-            function.restype, function.argtypes = gives, takes
+    _declare(short, _CALLS, path)
+    _declare(long, _LONG_CALLS, path)
     return short, long
+
+
+def _declare(library: ctypes.CDLL, calls: dict[str, tuple[Any, list[Any]]], path: str) -> None:
+    """Says what the calls give and take."""
+    for name, (gives, takes) in calls.items():
+        try:
+            function = getattr(library, name)
+        except AttributeError:
+            raise ImportError(f"{path} has no {name}: it is of another version than this module") from None
+        function.restype, function.argtypes = gives, takes
 
 
 _awari, _awari_long = _library()
@@ -219,12 +253,20 @@ _SOME_BYTE = ctypes.c_uint8()
 
 
 def version() -> str:
-    """The version of the library."""
+    """The version of the library.
+
+    >>> version() == __version__
+    True
+    """
     number = _awari.awari_version()
     return f"{number // 10000}.{number // 100 % 100}.{number % 100}"
 
 
-def _read(board: Board, pits: ctypes.Array, at: int) -> None:
+# The module and its library come together.
+__version__ = version()
+
+
+def _read(board: Board, pits: ctypes.Array[ctypes.c_char], at: int) -> None:
     """Writes the board's twelve pits there. That they are at most 48 stones, the library sees to."""
     if isinstance(board, str):
         word = board.encode("utf-8", "surrogatepass")
@@ -249,7 +291,11 @@ def _expect(answer: int, fault: _Fault | None = None) -> None:
 
 
 def play(board: Board, pit: int) -> tuple[list[int], int]:
-    """The board after a move, as the other player sees it, and the stones captured."""
+    """The board after a move, as the other player sees it, and the stones captured.
+
+    >>> play("0,0,0,0,0,1/1,0,1,0,0,0", 5)
+    ([0, 0, 1, 0, 0, 0, 0, 0, 0, 0, 0, 0], 2)
+    """
     at = _scratch
     pit = _whole(pit, "a pit is a whole number from 0 to 5")
     _read(board, at.pits, at.pits_at)
@@ -258,13 +304,17 @@ def play(board: Board, pit: int) -> tuple[list[int], int]:
 
 
 def size(level: int) -> int:
-    """How many boards a level has."""
+    """How many boards a level has.
+
+    >>> size(12)
+    1352078
+    """
     if not 0 <= _whole(level, _LEVELS_ARE) <= HIGHEST_LEVEL:
         raise ValueError(f"{_LEVELS_ARE}, and not {level}")
     return comb(level + PITS - 1, PITS - 1)
 
 
-def _whole(number, what: str) -> int:
+def _whole(number: Any, what: str) -> int:
     """The number, which has to be a whole one."""
     try:
         return operator.index(number)
@@ -280,19 +330,37 @@ class _Answers:
         raise NotImplementedError
 
     def entry(self, board: Board) -> Entry:
-        """What the levels say of a board."""
+        """What the levels say of a board.
+
+        >>> levels.entry([1, 0, 0, 0, 0, 1, 1, 0, 1, 0, 0, 0])
+        Entry(value=4, plan=5, distance=1)
+        """
         raise NotImplementedError
 
     def moves(self, board: Board) -> list[Move]:
-        """What each legal pit is worth, ascending; none if the play has ended."""
+        """What each legal pit is worth, ascending; none if the play has ended.
+
+        >>> for move in levels.moves("1,0,0,0,0,1/1,0,1,0,0,0"):
+        ...     print(move)
+        Move(pit=0, captures=0, value=-4, distance=13)
+        Move(pit=5, captures=2, value=4, distance=1)
+        """
         raise NotImplementedError
 
     def line(self, board: Board) -> Line:
-        """The play by the plans of both sides, to its first outcome by the limit of the levels up to the board's."""
+        """The play by the plans of both sides, to its first outcome by the limit of the levels up to the board's.
+
+        >>> levels.line("1,0,0,0,0,0/0,0,1,0,0,0")
+        Line(moves=[0, 2, 1, 3, 2, 4, 3, 5], outcome=2)
+        """
         raise NotImplementedError
 
     def replies(self, board: Board) -> list[Replies]:
-        """How many replies each legal pit leaves, and how many of them keep what the board is worth then."""
+        """How many replies each legal pit leaves, and how many of them keep what the board is worth then.
+
+        >>> levels.replies("1,0,0,0,0,1/1,0,1,0,0,0")
+        [Replies(pit=0, replies=2, keep=1), Replies(pit=5, replies=1, keep=1)]
+        """
         found = []
         for move in self.moves(board):
             after, _ = play(board, move.pit)
@@ -301,11 +369,17 @@ class _Answers:
         return found
 
     def longest(self, board: Board) -> list[int]:
-        """The play in which the losing side holds out, to the first capture or the end: as many plies as the distance."""
-        pits, captures = [], 0
+        """The play in which the losing side holds out, to the first capture or the end: as many plies as the distance.
+
+        >>> levels.longest("1,0,0,0,0,0/0,0,1,0,0,0")
+        [0, 2, 1, 3, 2, 4, 3, 5]
+        """
+        pits: list[int] = []
+        captures = 0
         while (entry := self._judged(board)).distance and not captures:
             # The losing side plays its lowest pit that takes longest.
             pit = entry.plan if entry.value > 0 else next(m.pit for m in self.moves(board) if m.distance == entry.distance)
+            assert pit is not None  # a distance has a plan
             pits.append(pit)
             board, captures = play(board, pit)
         return pits
@@ -314,7 +388,7 @@ class _Answers:
         """What the levels say of a board, if it is right beside what they say of its moves."""
         return self.entry(board)
 
-    def __enter__(self):
+    def __enter__(self: _Kind) -> _Kind:
         return self
 
     def __exit__(self, *_: object) -> None:
@@ -324,6 +398,7 @@ class _Answers:
         self.close()
 
     def close(self) -> None:
+        """Gives back what the levels take. Each board is refused as 59 from then on."""
         raise NotImplementedError
 
 
@@ -332,11 +407,14 @@ class Levels(_Answers):
 
     With `most`, levels of more stones are not read. A folder without level 0 is refused as 82. Any number of
     threads may ask at once.
+
+    >>> len(Levels("levels", most=4))
+    5
     """
 
-    _at = None
+    _at: int | None = None
 
-    def __init__(self, folder: str | os.PathLike, most: int = HIGHEST_LEVEL):
+    def __init__(self, folder: _Folder, most: int = HIGHEST_LEVEL):
         with Mapped(folder, most) as files:
             handle, fault = _Handle(), _Fault()
             for file in files._files:
@@ -347,12 +425,17 @@ class Levels(_Answers):
         self._handle, self._at = handle, ctypes.addressof(handle)
 
     @staticmethod
-    def mapped(folder: str | os.PathLike, most: int = HIGHEST_LEVEL) -> Mapped:
-        """The levels of a folder in their files, where they lie. Nothing is loaded, and nothing is verified."""
+    def mapped(folder: _Folder, most: int = HIGHEST_LEVEL) -> Mapped:
+        """The levels of a folder in their files, where they lie. Nothing is loaded, and nothing is verified.
+
+        >>> with Levels.mapped("levels") as mapped:
+        ...     mapped.entry("1,0,0,0,0,1/1,0,1,0,0,0")
+        Entry(value=4, plan=5, distance=1)
+        """
         return Mapped(folder, most)
 
     def __len__(self) -> int:
-        return _awari.awari_levels(self._at)
+        return int(_awari.awari_levels(self._at))
 
     def entry(self, board: Board) -> Entry:
         at = _scratch
@@ -376,19 +459,28 @@ class Levels(_Answers):
                 return Line(list(pits.raw[: at.size.value]), value)
             room = at.size.value
 
-    def probe_many(self, boards):
-        """What the levels say of an array of boards, twelve pits each: an array of value, plan and distance."""
+    def probe_many(self, boards: ArrayLike) -> _Array:
+        """What the levels say of an array of boards, twelve pits each: an array of value, plan and distance.
+
+        >>> levels.probe_many([[1, 0, 0, 0, 0, 1, 1, 0, 1, 0, 0, 0], [0] * 12]).tolist()
+        [(4, 5, 1), (0, 255, 0)]
+        """
         import numpy
 
-        boards = _pits_of(boards)
-        found = numpy.empty(len(boards), _entry_type(numpy, "<"))
+        rows = _pits_of(boards)
+        found = numpy.empty(len(rows), _entry_type("<"))
         told = ctypes.c_size_t()
         with self.share() as own:
-            _expect(_awari_long.awari_probe_many(own._at, boards.ctypes.data, len(boards), found.ctypes.data, len(found), ctypes.addressof(told)))
+            _expect(_awari_long.awari_probe_many(own._at, rows.ctypes.data, len(rows), found.ctypes.data, len(found), ctypes.addressof(told)))
         return found
 
     def share(self) -> Levels:
-        """The same levels in an object of their own, which is closed by itself. None is copied."""
+        """The same levels in an object of their own, which is closed by itself. None is copied.
+
+        >>> with levels.share() as shared:
+        ...     len(shared)
+        7
+        """
         shared, handle = Levels.__new__(Levels), _Handle()
         _expect(_awari.awari_share_with(self._at, ctypes.addressof(handle)))
         shared._handle, shared._at = handle, ctypes.addressof(handle)
@@ -406,12 +498,15 @@ class Mapped(_Answers):
     It opens at once, and takes no memory for levels. Nothing is verified; `check` compares the files with a
     digest that you trust. Any number of threads may ask at once. If a file is cut off meanwhile, the system
     ends the process by SIGBUS; `build` never cuts one off.
+
+    >>> len(Levels.mapped("levels"))
+    7
     """
 
-    _files: ctypes.Array = (_File * 0)()
+    _files: ctypes.Array[_File] = (_File * 0)()
     _maps: list[mmap.mmap | bytes] = []
 
-    def __init__(self, folder: str | os.PathLike, most: int = HIGHEST_LEVEL):
+    def __init__(self, folder: _Folder, most: int = HIGHEST_LEVEL):
         if not isinstance(folder, (str, os.PathLike)):
             raise TypeError(f"a folder is a str or a path, and not {folder!r}")
         if _whole(most, "the most stones are a whole number") < 0:
@@ -429,7 +524,7 @@ class Mapped(_Answers):
                 raise Refused(82, _Fault(level), str(path)) from None
         if not maps:
             raise Refused(82, _Fault(), f"{folder} has no level_00.awdb")
-        self._maps, self._files = maps, (_File * len(maps))(*map(_place, maps))
+        self._maps, self._files = maps, (_File * len(maps))(*(_File(*_place(content)) for content in maps))
 
     def __len__(self) -> int:
         return len(self._maps)
@@ -476,11 +571,15 @@ class Mapped(_Answers):
         return Line(moves, running + side * entry.value if entry.plan is None else running)
 
     def limit(self, level: int) -> int:
-        """The level's greatest distance, as its file says."""
+        """The level's greatest distance, as its file says.
+
+        >>> mapped.limit(2)
+        9
+        """
         maps = self._maps
         if self._file(level).len < _HEADER_BYTES:
             raise Refused(60)
-        return _LIMIT.unpack_from(maps[level])[0]
+        return int(_LIMIT.unpack_from(maps[level])[0])
 
     def _right_limit(self, level: int) -> int:
         """The same, if a level may have it. By another limit a line would not end."""
@@ -500,6 +599,10 @@ class Mapped(_Answers):
         """Whether the last file ends in this digest, in hexadecimal, and each file is one over the file below it.
 
         Form and digests are judged, and not the entries. A file at fault is a `Refused`. It reads all bytes.
+
+        >>> with Levels.mapped("levels", most=4) as files:
+        ...     files.check("b55db5f40f80654fee93fde6d202a74b07968d57100653e9539b264afcbfc16d")
+        True
         """
         maps, files = self._maps, self._files
         if not maps:
@@ -513,46 +616,66 @@ class Mapped(_Answers):
             below.raw = own.raw
         return below.raw.hex() == digest.lower()
 
-    def entries(self, level: int):
-        """The level's entries by rank, as an array over the mapped file: value, plan and distance. It is read only."""
+    def entries(self, level: int) -> _Array:
+        """The level's entries by rank, as an array over the mapped file: value, plan and distance. It is read only.
+
+        >>> mapped.entries(1)[5:8].tolist()
+        [(-1, 255, 0), (-1, 5, 1), (1, 255, 0)]
+        """
         import numpy
 
         maps = self._maps
         if self._file(level).len < _HEADER_BYTES + _ENTRY_BYTES * size(level):
             raise Refused(60)
-        return numpy.frombuffer(memoryview(maps[level]).toreadonly(), _entry_type(numpy, ">"), size(level), _HEADER_BYTES)
+        return numpy.frombuffer(memoryview(maps[level]).toreadonly(), _entry_type(">"), size(level), _HEADER_BYTES)
 
-    def values(self, level: int):
-        """The level's values by rank, as an array over the mapped file. It is read only."""
-        return self.entries(level)["value"]
+    def values(self, level: int) -> _Array:
+        """The level's values by rank, as an array over the mapped file. It is read only.
 
-    def probe_many(self, boards):
-        """What the files say of an array of boards, twelve pits each: an array of value, plan and distance."""
+        >>> mapped.values(1).tolist()
+        [-1, -1, -1, -1, -1, -1, -1, 1, 1, 1, 1, 1]
+        """
+        values: _Array = self.entries(level)["value"]
+        return values
+
+    def probe_many(self, boards: ArrayLike) -> _Array:
+        """What the files say of an array of boards, twelve pits each: an array of value, plan and distance.
+
+        >>> mapped.probe_many([[1, 0, 0, 0, 0, 1, 1, 0, 1, 0, 0, 0]])["value"].tolist()
+        [4]
+        """
         import numpy
 
-        boards = _pits_of(boards)
-        levels, ranks = rank_many(boards)
-        found = numpy.empty(len(boards), _entry_type(numpy, "<"))
+        rows = _pits_of(boards)
+        levels, ranks = rank_many(rows)
+        found = numpy.empty(len(rows), _entry_type("<"))
         for level in numpy.unique(levels):
             here = levels == level
             found[here] = self.entries(int(level))[ranks[here]]
         return found
 
     def counts(self, level: int) -> Counts:
-        """The level in numbers, as `awari counts` prints them."""
-        import numpy
+        """The level in numbers, as `awari counts` prints them.
 
+        >>> mapped.counts(1)
+        Counts(boards=12, won=5, even=0, lost=7, limit=1, values={-1: 7, 1: 5}, distances={0: 11, 1: 1})
+        """
         entries = self.entries(level)
-        value, distance = entries["value"], entries["distance"]
-        won, lost = int((value > 0).sum()), int((value < 0).sum())
-        numbers = [dict(zip(map(int, found), map(int, times))) for found, times in (
-            numpy.unique(value, return_counts=True), numpy.unique(distance, return_counts=True),
-        )]
-        return Counts(len(entries), won, len(entries) - won - lost, lost, self.limit(level), *numbers)
+        values, distances = _numbers(entries["value"]), _numbers(entries["distance"])
+        won, even = sum(times for value, times in values.items() if value > 0), values.get(0, 0)
+        return Counts(len(entries), won, even, len(entries) - won - even, self.limit(level), values, distances)
 
     def close(self) -> None:
         """Gives the files back. An array over a file keeps that file's bytes as long as it lives."""
         self._files, self._maps = (_File * 0)(), []
+
+
+def _numbers(found: _Array) -> dict[int, int]:
+    """Each number of an array, and how often it is there."""
+    import numpy
+
+    numbers, times = numpy.unique(found, return_counts=True)
+    return dict(zip(numbers.tolist(), times.tolist()))
 
 
 def _map(path: Path, level: int) -> mmap.mmap | bytes:
@@ -577,7 +700,7 @@ def _map(path: Path, level: int) -> mmap.mmap | bytes:
 
 def _place(content: mmap.mmap | bytes) -> tuple[int, int]:
     """The address and the length of mapped bytes. An empty file has some address."""
-    if not content:
+    if isinstance(content, bytes):
         return ctypes.addressof(_SOME_BYTE), 0
     return ctypes.addressof(ctypes.c_char.from_buffer(content)), len(content)
 
@@ -635,7 +758,7 @@ def _is_distance(entry: Entry, planned: Move, moves: list[Move]) -> bool:
     return comes_nearer and entry.distance == min(move.distance for move in moves if move.value == entry.value)
 
 
-def _entry(answer: int, found: ctypes.Array) -> Entry:
+def _entry(answer: int, found: ctypes.Array[ctypes.c_char]) -> Entry:
     """What a look-up has found, unless it is refused."""
     if answer:
         raise Refused(answer)
@@ -643,74 +766,87 @@ def _entry(answer: int, found: ctypes.Array) -> Entry:
     return Entry(value, None if plan == NO_PLAN else plan, distance)
 
 
-def _moves(found: ctypes.Array) -> list[Move]:
+def _moves(found: ctypes.Array[ctypes.c_char]) -> list[Move]:
     rows = enumerate(_MOVE.iter_unpack(found))
     return [Move(pit, captures, value, distance) for pit, (legal, captures, value, distance) in rows if legal]
 
 
-def _entry_type(numpy, order: str):
+def _entry_type(order: str) -> Any:
     """The type of entries: those of a file, big-endian, or those of the library."""
+    import numpy
+
     if order == ">":
         return numpy.dtype([("value", "i1"), ("plan", "u1"), ("distance", ">u4")])
     return numpy.dtype([("value", "i1"), ("plan", "u1"), ("distance", "<u4")], align=True)
 
 
-def _pits_of(boards):
+def _pits_of(boards: ArrayLike) -> _Array:
     """An array of boards as rows of twelve bytes."""
     import numpy
 
-    boards = numpy.asarray(boards)
-    if boards.shape == (0,):
-        boards = numpy.empty((0, PITS), numpy.uint8)
-    if boards.ndim != 2 or boards.shape[1] != PITS:
+    rows: _Array = numpy.asarray(boards)
+    if rows.shape == (0,):
+        rows = numpy.empty((0, PITS), numpy.uint8)
+    if rows.ndim != 2 or rows.shape[1] != PITS:
         raise Refused(1)
-    if boards.dtype != numpy.uint8:
-        if not numpy.issubdtype(boards.dtype, numpy.integer):
+    if rows.dtype != numpy.uint8:
+        if not numpy.issubdtype(rows.dtype, numpy.integer):
             raise TypeError("boards are rows of twelve whole numbers")
-        if boards.size and not (0 <= boards.min() and boards.max() < 256):
+        if rows.size and not (0 <= rows.min() and rows.max() < 256):
             raise Refused(2)
-    return numpy.ascontiguousarray(boards, numpy.uint8)
+    return numpy.ascontiguousarray(rows, numpy.uint8)
 
 
-def rank_many(boards):
-    """The levels and the ranks of an array of boards, twelve pits each, of at most 24 stones."""
+def rank_many(boards: ArrayLike) -> tuple[_Array, _Array]:
+    """The levels and the ranks of an array of boards, twelve pits each, of at most 24 stones.
+
+    >>> levels, ranks = rank_many([[0, 0, 0, 0, 0, 1, 0, 0, 0, 0, 0, 0]])
+    >>> levels.tolist(), ranks.tolist()
+    ([1], [6])
+    """
     import numpy
 
-    boards = _pits_of(boards)
-    left = boards.sum(axis=1, dtype=numpy.int64)
-    levels, ranks = left.copy(), numpy.zeros(len(boards), numpy.int64)
+    rows = _pits_of(boards)
+    left = rows.sum(axis=1, dtype=numpy.int64)
+    levels, ranks = left.copy(), numpy.zeros(len(rows), numpy.int64)
     if len(levels) and levels.max() > HIGHEST_LEVEL:
         raise Refused(59 if levels.max() <= 48 else 3)
     for pit in range(PITS - 1):
-        before = _before(numpy, PITS - 1 - pit)
+        before = _before(PITS - 1 - pit)
         ranks += before[left]
-        left -= boards[:, pit]
+        left -= rows[:, pit]
         ranks -= before[left]
     return levels, ranks
 
 
-def boards(level: int, ranks):
-    """The boards of an array of ranks of a level, twelve pits each."""
+def boards(level: int, ranks: ArrayLike) -> _Array:
+    """The boards of an array of ranks of a level, twelve pits each.
+
+    >>> boards(1, [6]).tolist()
+    [[0, 0, 0, 0, 0, 1, 0, 0, 0, 0, 0, 0]]
+    """
     import numpy
 
-    ranks = numpy.asarray(ranks)
-    if ranks.size and not numpy.issubdtype(ranks.dtype, numpy.integer):
-        raise TypeError(f"ranks are whole numbers, and not {ranks.dtype}")
-    ranks = numpy.array(ranks, numpy.int64)
-    if len(ranks) and not (0 <= ranks.min() and ranks.max() < size(level)):
+    given: _Array = numpy.asarray(ranks)
+    if given.size and not numpy.issubdtype(given.dtype, numpy.integer):
+        raise TypeError(f"ranks are whole numbers, and not {given.dtype}")
+    numbers = numpy.array(given, numpy.int64)
+    if len(numbers) and not (0 <= numbers.min() and numbers.max() < size(level)):
         raise IndexError(f"level {level} has ranks 0 to {size(level) - 1}")
-    found, left = numpy.zeros((len(ranks), PITS), numpy.uint8), numpy.full(len(ranks), level, numpy.int64)
+    found, left = numpy.zeros((len(numbers), PITS), numpy.uint8), numpy.full(len(numbers), level, numpy.int64)
     for pit in range(PITS - 1):
-        before = _before(numpy, PITS - 1 - pit)
+        before = _before(PITS - 1 - pit)
         # The stones that stay behind this pit are the fewest that leave room for the rank.
-        stay = numpy.searchsorted(before, before[left] - ranks)
+        stay = numpy.searchsorted(before, before[left] - numbers)
         found[:, pit] = left - stay
-        ranks -= before[left] - before[stay]
+        numbers -= before[left] - before[stay]
         left = stay
     found[:, PITS - 1] = left
     return found
 
 
-def _before(numpy, pits: int):
+def _before(pits: int) -> _Array:
     """For each number of stones: how many ways there are to lay at most this many in this many pits."""
+    import numpy
+
     return numpy.array([comb(stones + pits, pits) for stones in range(HIGHEST_LEVEL + 1)], numpy.int64)

@@ -48,6 +48,14 @@ expect() {
   if "$@"; then pass; else fault "$what: not so"; fi
 }
 
+# counts whether a command says yes; shows what it said if not, and what it has not tried
+expect_quiet() {
+  local what=$1 said
+  shift
+  if said=$("$@" 2>&1); then pass; else fault "$what: $(tail -n 20 <<<"$said")"; fi
+  grep 'not tried' <<<"$said" || :
+}
+
 # Runs a command on no input, and compares its status and what it prints on both streams.
 expect_said() {
   local what=$1 status=$2 output=$3 found printed

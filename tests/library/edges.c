@@ -2,11 +2,15 @@
  * FOLDER has levels 0 to 2 at least, and ROOM is an empty folder. It prints each line that is not so. */
 #define _POSIX_C_SOURCE 200809L
 #include "awari.h"
+#include <fcntl.h>
 #include <stdio.h>
 #include <stdlib.h>
 #include <string.h>
 #include <sys/stat.h>
 #include <unistd.h>
+
+/* A call that waits for ever ends the test. */
+enum { PATIENCE = 300 };
 
 static int wrong = 0;
 #define EXPECT(what) ((what) ? (void)0 : (void)(wrong = 1, printf("line %d: %s\n", __LINE__, #what)))
@@ -178,7 +182,8 @@ static void try_built(void) {
 }
 
 static void try_mapped(void) {
-    awari_file cut[3];
+    static const awari_file empty = {(const uint8_t *)"", 0};
+    awari_file cut[3], more[30]; /* more than there are levels */
     awari_entry entry = {9, 9, 9};
     awari_move moves[6];
     uint8_t below[32] = {0}, digest[32];
@@ -199,6 +204,9 @@ static void try_mapped(void) {
     cut[0] = files.level[1];
     EXPECT(awari_probe_moves_files(cut, 2, one, moves) == AWARI_WRONG_LEVEL && moves[0].captures == 9);
     EXPECT(awari_probe_moves_files(files.level, 2, one, moves) == AWARI_OK && moves[1].captures == 0);
+    for (size_t i = 0; i < 30; i++) more[i] = i < 2 ? files.level[i] : empty;
+    EXPECT(awari_probe_moves_files(more, 30, last, moves) == AWARI_OK && are_last_moves(moves));
+    EXPECT(awari_probe_moves_files(more, 30, stones_25, moves) == AWARI_NOT_YET);
     for (size_t level = 0; level < files.count; level++) {
         EXPECT(awari_check_file(files.level[level].bytes, files.level[level].len, below, digest) == AWARI_OK);
         EXPECT(!memcmp(digest, files.level[level].bytes + files.level[level].len - 32, 32));
@@ -249,7 +257,37 @@ static void try_folders(const char *room) {
     if (remove(path)) exit(2);
 }
 
+/* How many descriptors are open. */
+static int opened(void) {
+    int count = 0;
+    for (int descriptor = 0; descriptor < 256; descriptor++) count += fcntl(descriptor, F_GETFD) != -1;
+    return count;
+}
+
+/* How many files of levels are mapped. */
+static int mapped(void) {
+    char line[4096];
+    int count = 0;
+    FILE *maps = fopen("/proc/self/maps", "r");
+    while (maps && fgets(line, sizeof line, maps)) count += strstr(line, ".awdb") != NULL;
+    if (maps) fclose(maps);
+    return count;
+}
+
+/* Files are mapped once each, and nothing of them is left open or mapped. */
+static void try_given_back(const char *folder) {
+    awari_handle handle = AWARI_CLOSED;
+    awari_files some;
+    int before = opened(), own = mapped();
+    EXPECT(awari_map(folder, 2, &some, NULL) == AWARI_OK && opened() == before && mapped() == own + 3);
+    awari_unmap(&some);
+    EXPECT(mapped() == own && some.count == 0);
+    EXPECT(awari_open(folder, 2, &handle, NULL) == AWARI_OK && opened() == before && mapped() == own);
+    awari_close(&handle);
+}
+
 int main(int argc, char **argv) {
+    alarm(PATIENCE);
     if (argc != 3 || awari_map(argv[1], 24, &files, NULL) || files.count < 3) return 2;
     try_sentences();
     try_boards();
@@ -258,7 +296,11 @@ int main(int argc, char **argv) {
     try_levels(argv[1]);
     try_built();
     try_mapped();
+    int before = opened(), own = mapped();
     try_folders(argv[2]);
+    EXPECT(opened() == before && mapped() == own);
+    try_given_back(argv[1]);
     awari_unmap(&files);
+    EXPECT(mapped() == 0);
     return wrong;
 }

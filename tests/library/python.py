@@ -1,12 +1,18 @@
 """Asks the Python module what only a program in Python meets: python.py LEVELS
 
 Six threads ask one object, which refuses none of them. Refusals go to other processes and come back. Folders,
-files and numbers that are wrong are refused with what is wrong, and no call waits for a pipe. LEVELS is a folder
-with levels 0 to 5 at least. It prints each line that is not so, and ends with 0 only if there is none.
+files and numbers that are wrong are refused with what is wrong, and no call waits for a pipe. What is public has
+hints, and its examples run. A wheel and an sdist have what they should. LEVELS is a folder with levels 0 to 5 at
+least. It prints each line that is not so, and ends with 0 only if there is none.
 """
+import contextlib
 import copy
 import csv
+import doctest
+import email
 import hashlib
+import importlib.util
+import inspect
 import multiprocessing
 import os
 import pickle
@@ -15,9 +21,12 @@ import shutil
 import signal
 import struct
 import sys
+import tarfile
 import tempfile
 import threading
 import time
+import typing
+import zipfile
 from pathlib import Path
 
 TOP = Path(__file__).resolve().parents[2]
@@ -85,6 +94,11 @@ def try_refusals(folder):
             told = [(it.number, it.name, it.level, it.inner, it.rule, it.rank, it.path, str(it)) for it in (one, another)]
             expect("a refusal that comes back", told[1], told[0])
     expect("its text", str(fault), "83 Verify level 4: 22 Refused rank 1075 rule V6")
+    told = (fault.number, fault.name, fault.level, fault.inner, fault.rule, fault.rank, fault.path)
+    expect("its fields", told, (83, "Verify", 4, 22, "V6", 1075, None))
+    # want of memory is of no level
+    memory = awari.Refused(84, awari._Fault(3))
+    expect("want of memory", (str(memory), memory.level), ("84 Memory", None))
     with multiprocessing.get_context("fork").Pool(2) as pool:
         asked = pool.map_async(play_first, [BOARD, [0] * 11 + [1]])
         try:
@@ -189,6 +203,20 @@ def try_wrong_files(room, folder):
     expect("a limit that is too large", refused(lambda: mapped.line(BOARD)), "83 Verify level 0: 22 Refused rank 0 rule V7")
 
 
+def descriptors():
+    return len(os.listdir("/proc/self/fd"))
+
+
+def try_given_back(room, folder):
+    """No file stays open, whether a folder is opened or refused."""
+    before = descriptors()
+    for place in (folder, room / "wrong_0", room / "far"):
+        for kind in (awari.Levels, awari.Levels.mapped):
+            with contextlib.suppress(awari.Refused), kind(place):
+                pass
+    expect("files that stay open", descriptors() - before, 0)
+
+
 # ---- numbers and words
 
 def try_numbers(levels):
@@ -196,6 +224,10 @@ def try_numbers(levels):
     expect("no level", refused(lambda: awari.size(1.0)), "TypeError a level is a whole number from 0 to 24, and not 1.0")
     expect("no pit", refused(lambda: awari.play(BOARD, 1.0)), "TypeError a pit is a whole number from 0 to 5, and not 1.0")
     expect("another pit", [refused(lambda: awari.play(BOARD, pit)) for pit in (6, -1, 2**70)], ["4 NoPit"] * 3)
+    expect("pits that hold no such number", [refused(lambda: levels.entry([pit] + [0] * 11)) for pit in (256, -1)], ["2 Number"] * 2)
+    expect("too few pits, and too many", [refused(lambda: levels.entry([0] * pits)) for pits in (0, 11, 13)], ["1 Shape"] * 3)
+    for pits in ([1.0] * 12, 5, ["0"] * 12):
+        expect("no board", refused(lambda: levels.entry(pits)), "TypeError a board is its word, or the twelve whole numbers of its pits")
     ignored, sys.unraisablehook = [], lambda fault: ignored.append(fault.exc_value)
     expect("no folder at all", [refused(kind).split()[0] for kind in (awari.Levels, awari.Levels.mapped)], ["TypeError"] * 2)
     expect("an object that was not made goes in silence", ignored, [])
@@ -207,6 +239,99 @@ def try_numbers(levels):
     for name in ("package.json", "rust/Cargo.toml"):
         found = re.search(r'^ *"?version"?\W+([0-9.]+)"', (TOP / "bindings" / name).read_text(), re.MULTILINE)
         expect(f"the version of {name}", found[1], awari.version())
+
+
+# ---- what is public
+
+def public():
+    """Each function and class that is public, and the methods of these, by their names."""
+    for name in awari.__all__:
+        found = getattr(awari, name)
+        if inspect.isfunction(found):
+            yield name, found
+        if inspect.isclass(found):
+            methods = inspect.getmembers(found, lambda it: inspect.isfunction(it) or isinstance(it, property))
+            yield from ((f"{name}.{method}", getattr(it, "fget", it)) for method, it in methods if not method.startswith("_"))
+            yield f"{name}.__init__", found.__init__
+
+
+def try_public():
+    """Each public call says what it takes and gives, and what it is for, by an example."""
+    expect("what is public twice", len(set(awari.__all__)), len(awari.__all__))
+    names = {name for name, found in vars(awari).items() if not name.startswith("_") and getattr(found, "__module__", "") == "awari"}
+    expect("public names", names - set(awari.__all__), set())
+    calls = [(name, call) for name, call in public() if getattr(call, "__module__", "") == "awari"]
+    expect("how many public calls there are", len(calls) > 25, True)
+    for name, call in calls:
+        takes, hints = inspect.signature(call).parameters, typing.get_type_hints(call)
+        expect(f"the hints of {name}", set(takes) - {"self"} - set(hints), set())
+        expect(f"whether {name} says what it gives", name.endswith("__init__") or "return" in hints, True)
+        said = inspect.getdoc(call) or ""
+        expect(f"whether {name} says what it is for", bool(said), True)
+        expect(f"whether {name} has an example", name.endswith(("__init__", ".close")) or ">>>" in said, True)
+
+
+def try_examples():
+    """The examples of the docstrings, but those of arrays if numpy is not here."""
+    before, levels = os.getcwd(), TOP / "examples" / "levels"
+    has_numpy, needs_numpy = importlib.util.find_spec("numpy"), re.compile("probe_many|entries|values|counts|rank_many|boards[(]")
+    here = {"levels": awari.Levels(levels), "mapped": awari.Levels.mapped(levels)}
+    runner, cases = doctest.DocTestRunner(verbose=False), doctest.DocTestFinder().find(awari, extraglobs=here)
+    os.chdir(levels.parent)
+    for case in cases:
+        if has_numpy or not any(needs_numpy.search(example.source) for example in case.examples):
+            runner.run(case)
+    os.chdir(before)
+    expect("examples that fail", runner.failures, 0)
+    expect("how many examples run", runner.tries > 12, True)
+
+
+# ---- what is packed
+
+def backend_of(folder):
+    """What packs the module, as it stands in this folder."""
+    spec = importlib.util.spec_from_file_location("packer", folder / "wheel_of_awari.py")
+    packer = importlib.util.module_from_spec(spec)
+    spec.loader.exec_module(packer)
+    return packer
+
+
+def try_packed(room):
+    """A wheel has the module, its library and the mark that it is typed; an sdist gives the same wheel."""
+    wheel = room / wheel_of_awari.build_wheel(room)
+    about = f"awari-{awari.__version__}"
+    with zipfile.ZipFile(wheel) as files:
+        packed = {name: files.read(name) for name in files.namelist()}
+    info = {f"{about}.dist-info/{name}" for name in ("METADATA", "WHEEL", "RECORD", "licenses/LICENSE")}
+    expect("what is packed", set(packed), info | {f"awari/{name}" for name in ("__init__.py", "py.typed", "libawari.so.0")})
+    expect("the module that is packed", packed["awari/__init__.py"], (TOP / "bindings/awari.py").read_bytes())
+    said = email.message_from_bytes(packed[f"{about}.dist-info/METADATA"])
+    found = said["Name"], said["Version"], "Typing :: Typed" in said.get_all("Classifier")
+    expect("what is said of it", found, ("awari", awari.__version__, True))
+    (room / about).mkdir()
+    (room / "again").mkdir()
+    with tarfile.open(room / wheel_of_awari.build_sdist(room)) as sdist:
+        for member in sdist.getmembers():
+            (room / member.name).write_bytes(sdist.extractfile(member).read())
+    packer = backend_of(room / about)
+    expect("the wheel of an sdist", (room / "again" / packer.build_wheel(room / "again")).read_bytes(), wheel.read_bytes())
+    with zipfile.ZipFile(room / "again" / packer.build_editable(room / "again")) as files:
+        place = Path(files.read("awari.pth").decode().rstrip("\n"))
+    module = place / "awari" / "__init__.py"
+    expect("the module that is edited", (module.resolve(), (place / "awari" / "py.typed").exists()), (room / about / "awari.py", True))
+    expect("its library", (place / "awari" / "libawari.so.0").read_bytes(), packed["awari/libawari.so.0"])
+
+
+def try_project():
+    """What is read of pyproject.toml is what a reader of TOML finds, if one is here."""
+    if importlib.util.find_spec("tomllib") is None:
+        return
+    import tomllib
+
+    table = tomllib.loads((TOP / "bindings/pyproject.toml").read_text())["project"]
+    words, classifiers = wheel_of_awari.project()
+    expect("the words of [project]", words, {key: value for key, value in table.items() if isinstance(value, str)})
+    expect("its classifiers", classifiers, table["classifiers"])
 
 
 def try_numpy(folder):
@@ -253,6 +378,11 @@ def main(folder):
             try_numbers(levels)
         try_folders(Path(name), folder)
         try_wrong_files(Path(name), folder)
+        try_given_back(Path(name), folder)
+        try_public()
+        try_examples()
+        try_packed(Path(name).resolve())
+        try_project()
         try_numpy(folder)
     return 1 if WRONG else 0
 

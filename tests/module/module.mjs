@@ -110,11 +110,76 @@ async function keepFiles() {
   files.forEach((file, level) => expect(`the file of level ${level} has changed`, isSame(file, level)));
   let most = 0;
   for (let round = 0; round < 40; round++) {
-    levels.close();
-    files.forEach(file => levels.add(file));
+    useOnce(levels, files);
     if (round === 2) most = levels.bytes;
   }
   expect(`memory grew from ${most} to ${levels.bytes}`, levels.bytes === most);
+}
+
+/** Levels that are built, verified and asked, and then closed. */
+function useOnce(levels, files) {
+  levels.close();
+  files.forEach(() => levels.build());
+  levels.close();
+  files.forEach(file => levels.add(file));
+  for (let turn = 0; turn < 40; turn++) levels.line("1,0,0,0,0,1/1,0,1,0,0,0");
+}
+
+/** The line of a level above those that the program built: by plans, up to what the board is worth. */
+function compareHighLine(levels) {
+  const first = levels.board(TOP + 1, 0).reverse(), { moves, outcome } = levels.line(first);
+  let board = first, gained = 0, side = 1;
+  for (const pit of moves) {
+    expect(`${word(board)}: the line has another pit than the plan`, levels.entry(board).plan === pit);
+    const after = levels.play(board, pit);
+    [board, gained, side] = [after.board, gained + side * after.captures, -side];
+  }
+  const { plan, value } = levels.entry(board);
+  expect(`${word(first)}: a line to ${gained}`, moves.length > 0 && outcome === gained + (plan === null ? side * value : 0));
+}
+
+const LONG = 3000, FAR = 4_000_000_001;
+
+/** Calls that tell what no level has that a test can build: long lines, great distances and sizes, want of memory. */
+function unlikely(view) {
+  const put = (place, bytes) => bytes.forEach((byte, at) => view().setUint8(Number(place) + at, byte));
+  return {
+    awari_probe: () => 0,
+    awari_line: (handle, pits, place, room, out) => {
+      put(place, Array.from({ length: Math.min(LONG, Number(room)) }, (_, at) => at % 6));
+      view().setBigUint64(Number(out), BigInt(LONG), true);
+      return 0;
+    },
+    // pit 1 alone is legal, captures 48 and is worth -300
+    awari_probe_moves: (handle, pits, out) => {
+      put(out, Array.from({ length: 48 }, (_, at) => ({ 8: 1, 9: 48, 10: 0xd4, 11: 0xfe })[at] ?? 0));
+      view().setUint32(Number(out) + 12, FAR, true);
+      return 0;
+    },
+    awari_add_level: (handle, place, length, fault) => {
+      put(fault, Array(8).fill(9));
+      return 84;
+    },
+    awari_size: () => -1,
+  };
+}
+
+/** What a module tells by such calls. */
+async function tellMore() {
+  const { exports } = (await WebAssembly.instantiate(module)).instance, none = Array(12).fill(0);
+  const levels = new Levels({ exports: { ...exports, ...unlikely(() => new DataView(exports.memory.buffer)) } });
+  const { moves } = levels.line(none);
+  expect(`a line of ${moves.length} moves`, moves.length === LONG && moves.every((pit, at) => pit === at % 6));
+  const told = JSON.stringify(levels.moves(none));
+  expect(`moves ${told}`, told === JSON.stringify([{ pit: 1, captures: 48, value: -300, distance: FAR }]));
+  expect(`a size of ${levels.size(24)}`, levels.size(24) === 2 ** 32 - 1);
+  try {
+    levels.add(new Uint8Array(1));
+    expect("want of memory is not told", false);
+  } catch ({ number, message, level, inner, rule, rank }) {
+    const told = [number, message, level, inner, rule, rank].filter(it => it !== undefined);
+    expect(`want of memory: ${told}`, told.join() === "84,84 Memory");
+  }
 }
 
 /** A refusal has its fields: the level, what is inside it, and with a rule the rank. */
@@ -149,8 +214,15 @@ function refuseWrongBoards(levels) {
   expectRefused(59, () => levels.entry(Array(12).fill(4)));
   expectRefused(59, () => levels.board(25, 0));
   expectRefused(93, () => levels.board(1, 12));
-  expectRefused(93, () => levels.board(3, 1.5));
-  expectRefused(4, () => levels.play(Array(12).fill(4), 6));
+  for (const rank of [1.5, -1, NaN, "1", undefined]) expectRefused(93, () => levels.board(3, rank), `rank ${rank}`);
+  for (const level of [1.5, -1, 256, "1", undefined]) {
+    expectRefused(59, () => levels.board(level, 0), `a board of level ${level}`);
+    expectRefused(59, () => levels.counts(level), `counts of level ${level}`);
+    expect(`the size of level ${level}`, levels.size(level) === 0);
+  }
+  for (const stones of [1.5, -1, 256, NaN, "1", undefined])
+    expectRefused(2, () => levels.entry([stones, ...Array(11).fill(0)]), `${stones} stones`);
+  for (const pit of [6, 1.5, -1, 256, 262, "1", undefined]) expectRefused(4, () => levels.play(Array(12).fill(4), pit), `pit ${pit}`);
   expectRefused(5, () => levels.play("0,0,0,0,0,1/0,0,0,0,0,0", 0));
   expect("sizes", levels.size(1) === 12 && levels.size(24) === 417225900 && levels.size(25) === 0);
 }
@@ -274,10 +346,12 @@ const start = () => Levels.start(module);
 const built = await start();
 buildAtOnce(built);
 refuseSlicesOutOfTurn(built);
+compareHighLine(built);
 buildInSlices(await start());
 refuseWrongFiles(await start());
 await takeBytes();
 await keepFiles();
+await tellMore();
 await expectFields();
 compareTypes();
 const levels = await start();

@@ -56,6 +56,18 @@ impl Board {
         Ok(Board { pits })
     }
 
+    /// The boards of a level, by rank; none if it is above 24. For a part of a level, map its ranks by
+    /// [`Board::of_rank`]. Takes no memory.
+    ///
+    /// ```
+    /// # use awari::Board;
+    /// let last = Board::of_level(3).last().unwrap();
+    /// assert_eq!(last.to_string(), "3,0,0,0,0,0/0,0,0,0,0,0");
+    /// ```
+    pub fn of_level(level: u8) -> impl ExactSizeIterator<Item = Board> + DoubleEndedIterator {
+        (0..Board::count(level)).map(move |rank| Board::of_rank(level, rank).expect("a level has this many boards"))
+    }
+
     /// How many boards a level has; 0 if it is above 24.
     pub fn count(level: u8) -> u32 {
         // SAFETY: the call takes and gives a number.

@@ -40,6 +40,19 @@ pub(crate) struct PlainFault {
     pub(crate) rank: u32,
 }
 
+/// The bytes of a file. They are there as long as what they were taken of.
+#[repr(C)]
+pub(crate) struct PlainFile {
+    bytes: *const u8,
+    len: usize,
+}
+
+impl PlainFile {
+    pub(crate) fn of(file: &[u8]) -> PlainFile {
+        PlainFile { bytes: file.as_ptr(), len: file.len() }
+    }
+}
+
 #[repr(C)]
 pub(crate) struct Sentence {
     pub(crate) text: *const c_char,
@@ -76,4 +89,12 @@ extern "C" {
     ) -> u8;
     pub(crate) fn awari_share_with(from: *mut Handle, to: *mut Handle) -> u8;
     pub(crate) fn awari_close(handle: *mut Handle);
+    pub(crate) fn awari_probe_file(bytes: *const u8, len: usize, pits: *const [u8; 12], out: *mut PlainEntry) -> u8;
+    pub(crate) fn awari_probe_moves_files(
+        files: *const PlainFile,
+        count: usize,
+        pits: *const [u8; 12],
+        out: *mut [PlainMove; 6],
+    ) -> u8;
+    pub(crate) fn awari_check_file(bytes: *const u8, len: usize, below: *const [u8; 32], digest: *mut [u8; 32]) -> u8;
 }

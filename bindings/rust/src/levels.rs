@@ -5,11 +5,11 @@ use crate::calls::{
     awari_add_level, awari_close, awari_levels, awari_line, awari_probe, awari_probe_many, awari_probe_moves,
     awari_probe_value, awari_share_with, Handle, PlainEntry, PlainFault, PlainMove,
 };
+use crate::files::{files_of, READ};
 use crate::refusals::{refused, refused_with, Refusal};
 use crate::HIGHEST_LEVEL;
-use std::fs::OpenOptions;
+use std::fs::File;
 use std::io::{ErrorKind, Read};
-use std::os::unix::fs::OpenOptionsExt;
 use std::path::Path;
 use std::sync::{Mutex, MutexGuard, PoisonError};
 
@@ -36,15 +36,10 @@ pub struct Move {
     pub distance: u32,
 }
 
-/// A file is opened without waiting for whoever writes into a pipe. So it is named on x86-64 Linux.
-const O_NONBLOCK: i32 = 0o4000;
-/// The number of a file that is not read.
-const READ: u8 = 68;
-
 /// The levels of a folder, each verified: level 0 up to the first whose file is not there. So what they say
 /// is right.
 ///
-/// Threads may ask one value at once; then they wait for each other. [`Levels::share`] gives each thread
+/// Threads may ask one `Levels` at once; then they wait for each other. [`Levels::share`] gives each thread
 /// one of its own over the same levels, and then none waits.
 ///
 /// ```
@@ -87,12 +82,9 @@ impl Levels {
     /// The same, and levels of more than `most` stones are not read.
     pub fn open_to(folder: impl AsRef<Path>, most: u8) -> Result<Levels, Refusal> {
         let levels = Levels::closed();
-        for level in 0..=most.min(HIGHEST_LEVEL) {
-            match bytes_of(&folder.as_ref().join(format!("level_{level:02}.awdb")), level)? {
-                Some(bytes) => levels.add(&bytes)?,
-                None if level == 0 => return Err(Refusal::Open { level }),
-                None => break,
-            }
+        for file in files_of(folder.as_ref(), most) {
+            let (level, file) = file?;
+            levels.add(&bytes_of(file, level)?)?;
         }
         Ok(levels)
     }
@@ -142,7 +134,7 @@ impl Levels {
 
     /// What the levels say of many boards, which costs less than to ask for each. Refused as 59 if a
     /// board's level is not there.
-    pub fn entries(&self, boards: &[Board]) -> Result<Vec<Entry>, Refusal> {
+    pub fn many(&self, boards: &[Board]) -> Result<Vec<Entry>, Refusal> {
         let mut found = vec![PlainEntry::default(); boards.len()];
         let mut told = 0;
         // SAFETY: a board is twelve bytes. The library reads as many as are told, and writes one entry for each.
@@ -164,8 +156,20 @@ impl Levels {
         let mut found = [PlainMove::default(); 6];
         // SAFETY: the library reads twelve bytes, and writes six moves.
         refused(unsafe { awari_probe_moves(&mut **self.handle(), board.pits(), &mut found) })?;
-        let legal = (0..).zip(found).filter(|(_, found)| found.legal);
-        Ok(legal.map(|(pit, found)| Move::of(pit, found)).collect())
+        Ok(moves_of(found))
+    }
+
+    /// The boards of a level, by rank, each with what the level says of it. Refused as 59 if the level is not
+    /// there. Takes no memory.
+    pub fn entries(
+        &self,
+        level: u8,
+    ) -> Result<impl ExactSizeIterator<Item = (Board, Entry)> + DoubleEndedIterator + '_, Refusal> {
+        if usize::from(level) >= self.len() {
+            return Err(Refusal::NotYet);
+        }
+        let told = |board| (board, self.entry(&board).expect("a level stays once it is there"));
+        Ok(Board::of_level(level).map(told))
     }
 
     /// The play by the plans of both sides, to its first outcome, which is the board's value. Refused as 59
@@ -195,20 +199,11 @@ impl Levels {
     }
 }
 
-/// The bytes of a level's file, or none if it is not there. Refused as 82 if it does not open or is no file, as
-/// 81 if it is not read, and as 84.
-fn bytes_of(path: &Path, level: u8) -> Result<Option<Vec<u8>>, Refusal> {
-    let mut file = match OpenOptions::new().read(true).custom_flags(O_NONBLOCK).open(path) {
-        Ok(file) => file,
-        Err(error) if error.kind() == ErrorKind::NotFound => return Ok(None),
-        Err(_) => return Err(Refusal::Open { level }),
-    };
-    if !file.metadata().is_ok_and(|about| about.is_file()) {
-        return Err(Refusal::Open { level });
-    }
+/// The bytes of a level's file. Refused as 81 if it is not read, and as 84.
+fn bytes_of(mut file: File, level: u8) -> Result<Vec<u8>, Refusal> {
     let mut bytes = Vec::new();
     match file.read_to_end(&mut bytes) {
-        Ok(_) => Ok(Some(bytes)),
+        Ok(_) => Ok(bytes),
         Err(error) if error.kind() == ErrorKind::OutOfMemory => Err(Refusal::Memory),
         Err(_) => Err(Refusal::File { level, inner: READ }),
     }
@@ -227,8 +222,8 @@ impl From<PlainEntry> for Entry {
     }
 }
 
-impl Move {
-    fn of(pit: u8, PlainMove { captures, value, distance, .. }: PlainMove) -> Move {
-        Move { pit, captures, value, distance }
-    }
+/// The legal ones of these moves, each with its pit.
+pub(crate) fn moves_of(found: [PlainMove; 6]) -> Vec<Move> {
+    let legal = (0..).zip(found).filter(|(_, found)| found.legal);
+    legal.map(|(pit, PlainMove { captures, value, distance, .. })| Move { pit, captures, value, distance }).collect()
 }

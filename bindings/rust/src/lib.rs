@@ -16,16 +16,27 @@
 //! # }
 //! ```
 //!
+//! [`Levels`] reads and verifies files, and keeps three bytes a board. [`Mapped`] leaves large levels in mapped
+//! files: it opens at once, and verifies nothing. Any number of threads may ask one of either kind. At `Levels`
+//! they wait for each other, and at `Mapped` they don't. `examples/engine.rs` is a search in eight threads.
+//!
 //! The library is `libawari.a`: see `build.rs` for where it is looked for. It runs on x86-64 Linux.
 
 mod boards;
 mod calls;
+mod files;
 mod levels;
+mod map;
+mod mapped;
 mod refusals;
 
 pub use boards::{Board, Played};
 pub use levels::{Entry, Levels, Move};
+pub use map::Map;
+pub use mapped::Mapped;
 pub use refusals::Refusal;
 
 /// The highest level that there is.
 pub const HIGHEST_LEVEL: u8 = 24;
+/// How many levels there are.
+const LEVELS: usize = HIGHEST_LEVEL as usize + 1;

@@ -23,8 +23,14 @@ pub enum Refusal {
     MustFeed,
     /// 7: the play has ended.
     Ended,
+    /// 20: the file is as long as another level's.
+    WrongLevel,
     /// 59: the board's level is not there.
     NotYet,
+    /// 60: the file is shorter than it should be.
+    Truncated,
+    /// 67: the file is longer than it should be.
+    Trailing,
     /// 80: the file of the level is over another file than the one below it.
     Below { level: u8 },
     /// 81: the file of the level is none; `inner` is the number of what is wrong, 60 to 68.
@@ -52,7 +58,10 @@ impl Refusal {
             Refusal::EmptyPit => 5,
             Refusal::MustFeed => 6,
             Refusal::Ended => 7,
+            Refusal::WrongLevel => 20,
             Refusal::NotYet => 59,
+            Refusal::Truncated => 60,
+            Refusal::Trailing => 67,
             Refusal::Below { .. } => 80,
             Refusal::File { .. } => 81,
             Refusal::Open { .. } => 82,
@@ -61,6 +70,11 @@ impl Refusal {
             Refusal::Old { .. } => 86,
             Refusal::NoRank => 93,
         }
+    }
+
+    /// What the number means, for a person. A refusal is printed with more, as its level.
+    pub fn sentence(self) -> &'static str {
+        sentence(self.number())
     }
 
     /// The refusal that an answer of the library is, with the fault that was told beside it.
@@ -74,7 +88,10 @@ impl Refusal {
             5 => Refusal::EmptyPit,
             6 => Refusal::MustFeed,
             7 => Refusal::Ended,
+            20 => Refusal::WrongLevel,
             59 => Refusal::NotYet,
+            60 => Refusal::Truncated,
+            67 => Refusal::Trailing,
             80 => Refusal::Below { level },
             81 => Refusal::File { level, inner },
             82 => Refusal::Open { level },
@@ -120,9 +137,9 @@ impl fmt::Display for Refusal {
             }
             Refusal::Verify { level, inner, .. } => write!(f, "level {level}: {}", sentence(inner)),
             Refusal::Below { level } | Refusal::Open { level } | Refusal::Old { level } => {
-                write!(f, "level {level}: {}", sentence(self.number()))
+                write!(f, "level {level}: {}", self.sentence())
             }
-            _ => f.write_str(sentence(self.number())),
+            _ => f.write_str(self.sentence()),
         }
     }
 }

@@ -1,35 +1,18 @@
 //! The levels of `examples/levels`, and folders that are wrong.
 
+mod common;
+
 use awari::{Board, Levels, Refusal};
+use common::{bytes_of, examples, expect_files_alone, folder_below, name_of};
 use std::os::unix::fs::symlink;
-use std::path::{Path, PathBuf};
-use std::process::Command;
-use std::sync::mpsc::channel;
-use std::time::Duration;
-use std::{env, fs, thread};
-
-fn examples() -> PathBuf {
-    Path::new(env!("CARGO_MANIFEST_DIR")).join("../../examples/levels")
-}
-
-/// A new folder with the levels of the examples below this one.
-fn folder_below(name: &str, level: u8) -> PathBuf {
-    let folder = env::temp_dir().join(format!("awari-{name}-{}", std::process::id()));
-    let _ = fs::remove_dir_all(&folder);
-    fs::create_dir(&folder).unwrap();
-    for level in 0..level {
-        let file = format!("level_{level:02}.awdb");
-        fs::copy(examples().join(&file), folder.join(&file)).unwrap();
-    }
-    folder
-}
+use std::{fs, thread};
 
 #[test]
 fn each_board_is_worth_its_best_move() {
     let levels = Levels::open(examples()).unwrap();
     for level in 0..levels.len() as u8 {
         let boards: Vec<_> = (0..Board::count(level)).map(|rank| Board::of_rank(level, rank).unwrap()).collect();
-        let entries = levels.entries(&boards).unwrap();
+        let entries = levels.many(&boards).unwrap();
         for (board, entry) in boards.iter().zip(entries) {
             assert_eq!(levels.entry(board), Ok(entry));
             assert_eq!(levels.value(board), Ok(entry.value));
@@ -39,6 +22,23 @@ fn each_board_is_worth_its_best_move() {
             assert!(best.unwrap_or(i16::from(entry.value)) == i16::from(entry.value), "{board}");
         }
     }
+}
+
+#[test]
+fn boards_and_entries_of_a_level_come_by_rank() {
+    let levels = Levels::open(examples()).unwrap();
+    for level in 0..levels.len() as u8 {
+        let boards: Vec<_> = Board::of_level(level).collect();
+        let ranks: Vec<_> = boards.iter().map(|board| board.rank().unwrap()).collect();
+        assert!((0..Board::count(level)).map(|rank| (level, rank)).eq(ranks));
+        assert!(Board::of_level(level).rev().eq(boards.iter().rev().copied()));
+        let entries = levels.many(&boards).unwrap();
+        assert_eq!(levels.entries(level).unwrap().len(), boards.len());
+        assert!(levels.entries(level).unwrap().eq(boards.into_iter().zip(entries)));
+    }
+    assert_eq!(Board::of_level(24).len(), 417_225_900);
+    assert_eq!(Board::of_level(25).len(), 0);
+    assert_eq!(levels.entries(7).err(), Some(Refusal::NotYet));
 }
 
 #[test]
@@ -54,45 +54,28 @@ fn threads_share_levels() {
 }
 
 #[test]
-fn wrong_folders_are_refused() {
-    assert_eq!(Levels::open("no such folder").err(), Some(Refusal::Open { level: 0 }));
+fn wrong_files_are_refused() {
     let folder = folder_below("cut", 2);
-    let file = fs::read(examples().join("level_02.awdb")).unwrap();
-    fs::write(folder.join("level_02.awdb"), &file[..100]).unwrap();
+    fs::write(folder.join(name_of(2)), &bytes_of(2)[..100]).unwrap();
     let refusal = Levels::open(&folder).err();
     assert_eq!(refusal, Some(Refusal::File { level: 2, inner: 60 }));
     assert_eq!(Levels::open_to(&folder, 1).unwrap().len(), 2);
-    assert!(refusal.unwrap().to_string().starts_with("level 2: "));
-    fs::remove_dir_all(folder).unwrap();
-}
-
-/// The refusal of a folder, which has to come soon: nobody waits for a pipe.
-fn refusal_of(folder: &Path) -> Option<Refusal> {
-    let (tell, told) = channel();
-    let folder = folder.to_path_buf();
-    thread::spawn(move || tell.send(Levels::open(folder).err()));
-    told.recv_timeout(Duration::from_secs(20)).expect("it is refused, and not waited for")
-}
-
-#[test]
-fn what_is_no_file_is_refused() {
-    let folder = folder_below("pipe", 2);
-    let path = folder.join("level_02.awdb");
-    assert!(Command::new("mkfifo").arg(&path).status().unwrap().success());
-    assert_eq!(refusal_of(&folder), Some(Refusal::Open { level: 2 }));
-    for other in ["/dev/null", "/dev/zero", "/", "level_02.awdb"] {
-        fs::remove_file(&path).unwrap();
-        symlink(other, &path).unwrap();
-        assert_eq!(refusal_of(&folder), Some(Refusal::Open { level: 2 }), "{other}");
-    }
+    assert_eq!(refusal.unwrap().to_string(), format!("level 2: {}", Refusal::Truncated.sentence()));
     fs::remove_dir_all(folder).unwrap();
 }
 
 #[test]
-fn a_folder_without_levels_is_refused() {
-    let folder = folder_below("empty", 0);
-    assert_eq!(Levels::open(&folder).err(), Some(Refusal::Open { level: 0 }));
+fn a_file_that_is_not_read_is_refused() {
+    let folder = folder_below("unread", 2);
+    // The system shows this as a file, and has nothing to read at its beginning.
+    symlink("/proc/self/mem", folder.join(name_of(2))).unwrap();
+    assert_eq!(Levels::open(&folder).err(), Some(Refusal::File { level: 2, inner: 68 }));
     fs::remove_dir_all(folder).unwrap();
+}
+
+#[test]
+fn wrong_folders_are_refused() {
+    expect_files_alone("levels", |folder| Levels::open(folder).err());
 }
 
 #[test]

@@ -16,10 +16,10 @@ use Rattle.awari_boards.specs.Playing.{PrintsMove}
 use Rattle.awari_levels.specs.Texts.{PrintsText}
 use Rattle.awari_boards.specs.Worths.{PrintsWorths}
 use Rattle.awari_levels.specs.Boards.{PrintsAllBoards, PrintsBoardsBy}
-use Rattle.awari_levels.specs.Pairs.{PrintsPairsBy}
+use Rattle.awari_counts.specs.Pairs.{PrintsPairsBy}
 use Rattle.awari_members.specs.Forms.{form_of}
 use Rattle.awari_queries.specs.declared.questions.CountsQuery.{CountsQuery}
-use Rattle.awari_levels.specs.Counts.{PrintsCountsBy}
+use Rattle.awari_counts.specs.Counts.{PrintsCountsBy}
 use Rattle.awari_boards.specs.Places.{PrintsBoard, PrintsPlace}
 use Rattle.awari_boards.specs.Plays.{PrintsPlays}
 use Rattle.awari_boards.specs.Said.{PrintsServiceSaid}

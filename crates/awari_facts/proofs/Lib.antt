@@ -1,2 +1,4 @@
 pub mod FactLaws
+pub mod PartLaws
+pub mod RankLaws
 pub mod SourceLaws

@@ -1,12 +1,13 @@
 -- What is said of levels in memory, or by files.
-use Rattle.std.proofs.Common.{get_or, ◌≡◌, ℕ, List, slice_get, sum, Option, Some, None, ℤ, refl, sym, ap, subst, ◌∙◌, arith}
+use Rattle.std.proofs.Common.{get_or, ◌≡◌, ℕ, List, slice_get, sum, Option, Some, None, Result, Ok, Err, ℤ, refl, sym, ap, subst, ◌∙◌, arith}
 use Rattle.std.proofs.lemmas.List.{length-take-le}
-use Rattle.std.specs.Prelude.{IsSomeAnd}
+use Rattle.std.specs.Prelude.{IfErr, IsSomeAnd}
 use Rattle.std.proofs.lemmas.Option.{get_or_from_slice_get}
 use Rattle.awari_folder.specs.Contents.{Same}
 use Rattle.awari_folder.specs.declared.faults.FolderFault.{FolderFault}
 use Rattle.awari_places.proofs.Reading.{still_says}
 use Rattle.awari_places.proofs.Running.{fault_before}
+use Rattle.awari_places.specs.Faults.{IsLimitFault}
 use Rattle.awari_places.specs.Places.{AreFormed}
 use Rattle.awari_places.specs.Runs.{IsEntryAt}
 use Rattle.awari_rank.specs.Rank.{rank_of, size_of}
@@ -15,7 +16,7 @@ use Rattle.awari_table.specs.Images.{entry_of, no_entry, no_image}
 use Rattle.awari_table.specs.Shelves.{IsShelf}
 use Rattle.awari_table.specs.declared.images.Entry.{Entry}
 use Rattle.awari_table.specs.declared.images.Image.{Image}
-use Rattle.awari_facts.specs.Sources.{IsUnreadFrom, SaysBy, limit_of}
+use Rattle.awari_facts.specs.Sources.{IsLimitUnread, IsUnreadFrom, SaysBy, limit_of}
 use Rattle.awari_facts.specs.declared.sources.Source.{Source}
 use Rattle.awari_facts.specs.declared.sources.Source.TheVariants.{Memory, Files}
 
@@ -28,6 +29,12 @@ says_still (Files levels) old new images same says = still_says old new levels i
 pub unread_before : (source : Source) (level rank : ℕ) (old new : ℕ → Option (Option (List ℕ))) (fault : FolderFault) → Same old new → IsUnreadFrom source level rank (new level) fault → IsUnreadFrom source level 0 (old level) fault
 unread_before (Memory levels) level rank old new fault same is = is
 unread_before (Files levels) level rank old new fault same is = fault_before level rank 0 old new fault same (omega arith) is
+
+-- why a limit is not read in a header
+pub unread_limit : (source : Source) (levels level : ℕ) (known : Option (Option (List ℕ))) (r : Result ℕ FolderFault) → source ≡ Files levels
+    → ((name : Option (List ℕ)) → known ≡ Some name → IfErr r (IsLimitFault level name)) → IfErr r (IsLimitUnread source level known)
+unread_limit source levels level known (Ok n) is due = tt
+unread_limit source levels level known (Err fault) is due = subst (λ (s : Source). IsLimitUnread s level known fault) (sym is) (λ name here. due name here)
 
 pub image_of : (o : Option Image) (P : Image → Type 0) → IsSomeAnd o P → (image : Image) × (o ≡ Some image) × P image
 image_of None P h = absurd h

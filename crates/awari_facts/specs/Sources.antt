@@ -1,8 +1,8 @@
 -- Where the entries of a level are read, and what is said of a level that no one verified.
-use Rattle.std.specs.Prelude.{◌≡◌, ℕ, ◌+◌, ◌<◌, ◌≤◌, List, length, min, Option, slice_index_or}
+use Rattle.std.specs.Prelude.{◌≡◌, ℕ, ◌+◌, ◌<◌, ◌≤◌, List, length, min, Option, Some, slice_index_or}
 use Rattle.awari_folder.specs.Contents.{AreNames}
 use Rattle.awari_folder.specs.declared.faults.FolderFault.{FolderFault}
-use Rattle.awari_places.specs.Faults.{IsFaultFrom, IsRefusedAt}
+use Rattle.awari_places.specs.Faults.{IsFaultFrom, IsLimitFault, IsRefusedAt}
 use Rattle.awari_places.specs.Opening.{AreFramed}
 use Rattle.awari_places.specs.Places.{AreFormed, Says}
 use Rattle.awari_places.specs.declared.opening.Opened.{Opened}
@@ -40,6 +40,11 @@ IsUnreadFrom (Files levels) level rank known fault = IsFaultFrom level rank know
 abbrev pub IsUnreadAt : Source → (ℕ → Option (Option (List ℕ))) → List ℕ → FolderFault → Type 0
 IsUnreadAt (Memory levels) stands board fault = ⊥
 IsUnreadAt (Files levels) stands board fault = IsRefusedAt stands board fault
+
+-- Why the limit of a level is not read, where it is known what has the name of the level's file. Levels in memory refuse none.
+abbrev pub IsLimitUnread : Source → ℕ → Option (Option (List ℕ)) → FolderFault → Type 0
+IsLimitUnread (Memory levels) level known fault = ⊥
+IsLimitUnread (Files levels) level known fault = (name : Option (List ℕ)) → known ≡ Some name → IsLimitFault level name fault
 
 -- the limit of the level of this number
 abbrev pub limit_of : List Image → ℕ → ℕ

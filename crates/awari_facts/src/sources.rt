@@ -2,14 +2,13 @@
 
 ghost use Rattle.std.specs.Prelude.{◌≡◌, ◌<◌, ◌≤◌, ℕ, List, Option, Some, IfErr, IfOk, length, slice_index_or, sum};
 ghost use Rattle.awari_folder.specs.State.{Unchanged};
-ghost use Rattle.awari_places.specs.Faults.{IsLimitFault};
 ghost use Rattle.awari_places.specs.Runs.{IsEntryAt, IsRunOf};
 ghost use Rattle.awari_rank.specs.Rank.{size_of};
 ghost use Rattle.awari_table.specs.Images.{entry_of, no_entry, no_image};
 ghost use Rattle.awari_table.specs.declared.TheConstants.{HIGHEST_LEVEL};
 ghost use Rattle.awari_table.specs.declared.images.Image.{Image};
 ghost use Rattle.awari_places.specs.Places.{AreFormed, IsLevelOf};
-ghost use Rattle.awari_facts.specs.Sources.{IsUnreadAt, IsUnreadFrom, SaysBy, images_of, levels_of, limit_of};
+ghost use Rattle.awari_facts.specs.Sources.{IsLimitUnread, IsUnreadAt, IsUnreadFrom, SaysBy, images_of, levels_of, limit_of};
 
 use awari_folder::{Folder, FolderFault};
 use awari_packed::PackedBoard;
@@ -170,7 +169,8 @@ pub fn entry_at<F: Folder>(
     }
 }
 
-/// The limit of a level. Condition: the level is there.
+/// The limit of a level. Condition: the level is there. It is refused as [`limit_in_header`] is; levels in memory
+/// refuse none.
 pub fn read_limit<F: Folder>(
     source: Source<'_>,
     folder: &mut F,
@@ -180,7 +180,7 @@ pub fn read_limit<F: Folder>(
     requires low { level ≤ HIGHEST_LEVEL }
     ensures limit { (images : List Image) → SaysBy source.entry (F.state folder.old).stands images → IfOk result (λ limit. limit ≡ limit_of images level) }
     ensures same { Unchanged (F.state folder.old) (F.state folder.new) }
-    ensures fault { (name : Option (List ℕ)) → (F.state folder.old).stands level ≡ Some name → IfErr result (IsLimitFault level name) }
+    ensures fault { IfErr result (IsLimitUnread source.entry level ((F.state folder.old).stands level)) }
 {
     match source {
         Source::Memory(levels) => Ok(limit_on(levels, level)),

@@ -1,15 +1,12 @@
 -- The boards of a level, taken one by one in order of rank.
-use Rattle.std.proofs.Common.{◌≡◌, ℕ, ◌+◌, ◌%◌, ◌==◌, ◌<◌, ◌≤◌, Bool, true, false, cond, ◌&&◌, List, [], ◌∷◌, ◌++◌, length, take, filter, map, max, sum, Some, None, slice_get, refl, sym, ◌∙◌, ap, arith}
+use Rattle.std.proofs.Common.{◌≡◌, ℕ, ◌+◌, ◌%◌, ◌==◌, ◌≤◌, Bool, true, false, cond, ◌&&◌, List, [], ◌∷◌, ◌++◌, length, take, filter, map, max, None, refl, sym, ◌∙◌, ap, arith}
 use Rattle.std.proofs.lemmas.Bool.Decides.{nat_tests}
 use Rattle.std.proofs.lemmas.List.{append-nil, length-append, map-append, take_all}
 use Rattle.std.proofs.lemmas.List.Elements.{filter-append}
 use Rattle.std.proofs.lemmas.List.Sums.{fold-append}
-use Rattle.awari_board.specs.Rules.{IsBoard}
-use Rattle.awari_rank.proofs.Ranking.{listed_board}
-use Rattle.awari_rank.proofs.Reaching.{board_reached}
-use Rattle.awari_rank.specs.Rank.{rank_of, size_of}
+use Rattle.awari_rank.specs.Rank.{size_of}
 use Rattle.awari_rank.specs.Tuples.{tuples}
-use Rattle.awari_table.proofs.ShelfLemmas.{entry_of-read, take-read}
+use Rattle.awari_table.proofs.ShelfLemmas.{take-read}
 use Rattle.awari_table.specs.Images.{entry_of, greatest_dist}
 use Rattle.awari_table.specs.declared.images.Entry.{Entry}
 use Rattle.awari_table.specs.declared.images.Image.{Image}
@@ -37,20 +34,6 @@ each-push k before (y ∷ ys) x =
         ≡ cond b (y ∷ each k (before + 1) ys) (each k (before + 1) ys) ++ cond ((before + (length (y ∷ ys) + 1)) % k == 0) (x ∷ []) []
     go true rest = ap (λ t. y ∷ t) rest
     go false rest = rest
-
-pub is_at : (images : List Image) (level rank : ℕ) (image : Image) (board : List ℕ) (e : Entry) → slice_get images level ≡ Some image → slice_get image.entries rank ≡ Some e
-    → IsBoard board → sum board ≡ level → rank_of board ≡ rank → IsAt images level rank board e
-is_at images level rank image board e found read whole stones ranked = record {
-  listed = rw (stones, ranked) at (listed_board board whole.pits);
-  entry = entry_of-read images board image e (rw stones found) (rw ranked read);
-}
-
--- some board has each rank
-pub some_at : (images : List Image) (level rank : ℕ) (image : Image) (e : Entry) → slice_get images level ≡ Some image → slice_get image.entries rank ≡ Some e
-    → level ≤ 24 → rank < size_of level → (board : List ℕ) × IsAt images level rank board e
-some_at images level rank image e found read low inside =
-    let (board, whole, stones, ranked) = board_reached level rank low inside in
-    (board, is_at images level rank image board e found read whole stones ranked)
 
 -- ---- the farthest
 

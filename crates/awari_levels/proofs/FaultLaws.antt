@@ -6,7 +6,7 @@ use Rattle.awari_facts.specs.declared.sources.Source.{Source}
 use Rattle.awari_facts.specs.declared.sources.Source.TheVariants.{Memory, Files}
 use Rattle.awari_folder.specs.Contents.{Same}
 use Rattle.awari_folder.specs.declared.faults.FolderFault.{FolderFault}
-use Rattle.awari_levels.proofs.SizeLaws.{rank-inside}
+use Rattle.awari_facts.proofs.RankLaws.{rank-inside}
 use Rattle.awari_levels.specs.Listing.{IsListFault}
 use Rattle.awari_places.specs.Faults.{IsEntryFault, IsFaultFrom}
 use Rattle.awari_rank.specs.Rank.{rank_of}

@@ -1,16 +1,8 @@
-mod CellLaws
 mod ChoiceLaws
-mod CountLaws
 mod FaultLaws
 mod FolderLaws
 mod HeldLaws
-mod KeyLaws
-mod LineLaws
 mod ListingLaws
-mod PairLaws
-mod SizeLaws
-mod SourceLaws
-mod TallyLaws
 mod TextLaws
 mod WalkLaws
 mod WantedLaws

@@ -1,17 +1,8 @@
-pub mod Asking
 pub mod Batches
 pub mod Boards
-pub mod Counts
 pub mod Folders
 pub mod Listing
-pub mod Numbers
-pub mod Pairs
-pub mod Ranges
-pub mod RowHeads
-pub mod Rows
 pub mod Segments
-pub mod Tables
-pub mod Tallies
 pub mod Texts
 pub mod Walks
 pub mod Wishes

@@ -1,6 +1,6 @@
 //! The commands of the program `awari` that answer what is asked of whole levels: whether a folder is right,
-//! its text, and the boards of a level in numbers, by one column or two, and in lists. Each prints to a writer that is lent to it,
-//! and gives the status that the program ends with.
+//! its text, and the boards of a level in lists. Each prints to a writer that is lent to it, and gives the status
+//! that the program ends with.
 //!
 //! The line of each right level, printed, in `crates/awari_levels/src/verifying.rt`:
 //!
@@ -20,17 +20,8 @@
 mod asked;
 mod batches;
 mod boards;
-mod cells;
-mod counts;
-mod laws;
 mod listing;
-mod pairs;
-mod ranges;
-mod rows;
 mod segments;
-mod shown;
-mod tables;
-mod tallies;
 mod texts;
 mod verifying;
 mod walks;
@@ -38,9 +29,6 @@ mod wanted;
 mod wishes;
 
 pub use boards::{run_all_boards, run_boards, wanted_of};
-pub use counts::run_counts;
-pub use laws::{counts_come_to_the_size, pairs_come_to_the_size};
-pub use pairs::run_pairs;
 pub use texts::run_text;
 pub use verifying::run_verify;
 pub use wanted::Wanted;

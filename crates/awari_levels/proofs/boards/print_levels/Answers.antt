@@ -1,9 +1,9 @@
 use Rattle.std.proofs.Common.{Ok, ap, refl}
 use Rattle.std.proofs.KnownBytes.{Appends-nil}
+use Rattle.awari_facts.proofs.PartLaws.{lines-next}
 use Rattle.awari_facts.proofs.SourceLaws.{shelf_formed}
 use Rattle.awari_folder.proofs.States.{unchanged, unchanged_then}
 use Rattle.awari_levels.proofs.ListingLaws.{all_listed}
-use Rattle.awari_levels.proofs.LineLaws.{lines-next}
 use Rattle.awari_levels.specs.Boards.{level_lines}
 use Rattle.awari_levels.proofs.boards.print_levels.Goals as goal
 

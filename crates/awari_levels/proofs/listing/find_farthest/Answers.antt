@@ -6,7 +6,7 @@ use Rattle.awari_levels.proofs.ChoiceLaws.{farthest-all, farthest-more, farthest
 use Rattle.awari_facts.proofs.SourceLaws.{says_still}
 use Rattle.awari_play.proofs.Lasting.{err_same}
 use Rattle.awari_levels.proofs.FaultLaws.{list_entry}
-use Rattle.awari_levels.proofs.SourceLaws.{some_entry}
+use Rattle.awari_facts.proofs.RankLaws.{some_entry}
 use Rattle.awari_levels.proofs.WantedLaws.{within-key}
 use Rattle.awari_levels.proofs.listing.find_farthest.Goals as goal
 

@@ -7,7 +7,7 @@ use Rattle.awari_table.specs.Images.{entry_of}
 use Rattle.awari_play.proofs.Lasting.{err_same}
 use Rattle.awari_levels.proofs.FaultLaws.{list_board}
 use Rattle.awari_levels.proofs.HeldLaws.{held-long, held-next}
-use Rattle.awari_levels.proofs.SourceLaws.{at_board}
+use Rattle.awari_facts.proofs.RankLaws.{at_board}
 use Rattle.awari_levels.proofs.ListingLaws.{Lists, lists-all, lists-more, lists-none}
 use Rattle.awari_levels.proofs.listing.print_held.Goals as goal
 

@@ -1,6 +1,6 @@
 use Rattle.std.proofs.Common.{◌≤◌, ◌<◌, ◌+◌, arith}
 use Rattle.awari_facts.specs.Sources.{images_of}
-use Rattle.awari_levels.proofs.SourceLaws.{at_listed, listed_below}
+use Rattle.awari_facts.proofs.RankLaws.{at_listed, listed_below}
 use Rattle.awari_rank.specs.Rank.{size_of}
 use Rattle.awari_levels.proofs.segments.key_behind.Goals as goal
 

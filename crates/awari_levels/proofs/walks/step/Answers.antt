@@ -3,7 +3,7 @@ use mir.Val.{of_z, to_z}
 use Rattle.std.proofs.Common.{◌≡◌, ◌≤◌, Some, true, ap, arith, rules, sym, ◌∙◌}
 use Rattle.awari_facts.proofs.SourceLaws.{says_still}
 use Rattle.awari_levels.proofs.ChoiceLaws.{weighs}
-use Rattle.awari_levels.proofs.SourceLaws.{some_entry}
+use Rattle.awari_facts.proofs.RankLaws.{some_entry}
 use Rattle.awari_levels.proofs.WalkLaws.{drawn-more, drawn-pass, drawn-skip, due-passes, none-some, passes-key}
 use Rattle.awari_levels.proofs.walks.step.Goals as goal
 

@@ -1,0 +1,9 @@
+pub mod Asking
+pub mod Counts
+pub mod Numbers
+pub mod Pairs
+pub mod Ranges
+pub mod RowHeads
+pub mod Rows
+pub mod Tables
+pub mod Tallies
