@@ -212,7 +212,8 @@ class Levels {
    * @returns {Entry[]}
    */
   probeMany(boards) {
-    const count = boards.length, place = this.#room((PITS + ENTRY_BYTES) * count), entries = place + BigInt(PITS * count);
+    const count = boards.length, place = this.#room((PITS + ENTRY_BYTES) * count);
+    const entries = place + BigInt(PITS * count);
     try {
       boards.forEach((board, at) => {
         const pits = this.#bytes(this.#board(board), PITS);
@@ -309,7 +310,8 @@ class Levels {
    */
   check(file, below) {
     const given = bytesOf(below), digest = this.#out + BigInt(DIGEST_BYTES);
-    if (given.length !== DIGEST_BYTES) throw new TypeError(`A digest has ${DIGEST_BYTES} bytes, and this has ${given.length}`);
+    if (given.length !== DIGEST_BYTES)
+      throw new TypeError(`A digest has ${DIGEST_BYTES} bytes, and this has ${given.length}`);
     this.#bytes(this.#out, DIGEST_BYTES).set(given);
     expect(this.#lend(bytesOf(file), (place, length) => this.#calls.awari_check_file(place, length, this.#out, digest)));
     return this.#bytes(digest, DIGEST_BYTES).slice();

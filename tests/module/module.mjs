@@ -304,8 +304,9 @@ function compareCounts(levels) {
 
 /** Values alone, many boards at once and the bytes of files tell what `entry` and `moves` tell of verified levels. */
 function compareOtherCalls(levels, boards) {
-  const same = (one, other) => JSON.stringify(one) === JSON.stringify(other), entries = boards.map(board => levels.entry(board));
-  const files = Array.from({ length: TOP + 1 }, (_, level) => fileOf(level)), sum = board => board.reduce((a, b) => a + b);
+  const same = (one, other) => JSON.stringify(one) === JSON.stringify(other), sum = board => board.reduce((a, b) => a + b);
+  const entries = boards.map(board => levels.entry(board));
+  const files = Array.from({ length: TOP + 1 }, (_, level) => fileOf(level));
   expect("many boards are told otherwise", same(levels.probeMany(boards), entries) && same(levels.probeMany([]), []));
   expectRefused(59, () => levels.probeMany([boards[0], Array(12).fill(4)]));
   boards.forEach((board, at) => {
