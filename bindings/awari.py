@@ -38,8 +38,8 @@ else:
     ArrayLike = _Array = Any
 
 __all__ = [
-    "HIGHEST_LEVEL", "NAMES", "NO_PLAN", "PITS", "Board", "Counts", "Draft", "Entry", "Levels", "Line", "Mapped", "Move",
-    "Refused", "Replies", "Tally", "boards", "legal", "play", "rank_many", "size", "version",
+    "HIGHEST_LEVEL", "NAMES", "NO_PLAN", "PITS", "Board", "Counts", "Draft", "Entry", "Levels", "Line", "Mapped",
+    "Move", "Refused", "Replies", "Tally", "boards", "legal", "play", "rank_many", "size", "version",
 ]
 
 HIGHEST_LEVEL = 24
@@ -473,7 +473,7 @@ class Levels(_Answers):
 
     def _hold(self, handle: _Handle) -> None:
         self._handle, self._at = handle, ctypes.addressof(handle)
-        # The first is held for a moment, while levels come or go. The second is held for long calls, up to a whole build.
+        # The first is held for a moment, while levels come or go; the second for long calls, up to a whole build.
         self._change, self._turn = threading.RLock(), threading.Lock()
 
     @staticmethod
@@ -534,7 +534,7 @@ class Levels(_Answers):
         return self._line(_awari.awari_longest_line)
 
     def _line(self, call: Any) -> list[int]:
-        """The pits that a call tells of the board that was read. It is asked again where it has more than there was room for."""
+        """The pits that a call tells of the board that was read. It is asked again for more room, if it has more."""
         at, room = _scratch, 64
         while True:
             pits = ctypes.create_string_buffer(room)
@@ -767,7 +767,8 @@ class Mapped(_Answers):
         captures = 0
         while (entry := self._judged(board)).distance and not captures:
             # The losing side plays its lowest pit that takes longest.
-            pit = entry.plan if entry.value > 0 else next(m.pit for m in self.moves(board) if m.distance == entry.distance)
+            others = (move.pit for move in self.moves(board) if move.distance == entry.distance)
+            pit = entry.plan if entry.value > 0 else next(others)
             assert pit is not None  # a distance has a plan
             pits.append(pit)
             board, captures = play(board, pit)

@@ -235,10 +235,9 @@ static void tell_counts(void) {
 static void tell_build(void) {
     awari_handle own = AWARI_CLOSED;
     awari_draft draft = {0, 0, false};
-    uint8_t level, digest[32], *file;
-    uint8_t answer = awari_share(&handle, &own);
-    size_t len = awari_file_len(level = awari_levels(&own));
-    file = (uint8_t *)malloc(len);
+    uint8_t digest[32], answer = awari_share(&handle, &own), level = awari_levels(&own);
+    size_t len = awari_file_len(level);
+    uint8_t *file = (uint8_t *)malloc(len);
     if (!answer) answer = file ? awari_begin(&own) : (uint8_t)AWARI_MEMORY_OF_LEVEL;
     while (!answer && !draft.settled) answer = awari_spread(&own, 1000, &draft);
     if (!answer) answer = awari_finish(&own, file, len);
@@ -320,11 +319,11 @@ static const struct {
     int asks;
     void (*tell)(void);
 } calls[] = {
-    {"open", NONE, tell_open},         {"map", NONE, tell_map},         {"check", EITHER, tell_check},
-    {"entry", EITHER, tell_entry},     {"moves", EITHER, tell_moves},   {"line", VERIFIED, tell_line},
+    {"open", NONE, tell_open},           {"map", NONE, tell_map},           {"check", EITHER, tell_check},
+    {"entry", EITHER, tell_entry},       {"moves", EITHER, tell_moves},     {"line", VERIFIED, tell_line},
     {"longest", VERIFIED, tell_longest}, {"counts", VERIFIED, tell_counts}, {"build", VERIFIED, tell_build},
-    {"play", NONE, tell_play},         {"legal", NONE, tell_legal},     {"rank", NONE, tell_rank},
-    {"board", NONE, tell_ranked},      {"size", NONE, tell_size},       {"sentence", NONE, tell_sentence},
+    {"play", NONE, tell_play},           {"legal", NONE, tell_legal},       {"rank", NONE, tell_rank},
+    {"board", NONE, tell_ranked},        {"size", NONE, tell_size},         {"sentence", NONE, tell_sentence},
 };
 
 /* Takes the names out of an answer that has numbers: C has none. */

@@ -148,9 +148,11 @@ def answers(room, case):
         return [opened(room, case)]
     for calls, kind in ((OF_FILES, awari.Mapped), (OF_VERIFIED, awari.Levels)):
         if case.call in calls:
-            return [told(lambda: calls[case.call](one, *case.words)) for one in objects(room, case.place) if isinstance(one, kind)]
+            asked = [one for one in objects(room, case.place) if isinstance(one, kind)]
+            return [told(lambda: calls[case.call](one, *case.words)) for one in asked]
     if case.call in OF_LEVELS:
-        asked = [one for one in objects(room, case.place) if HAS_NUMPY or case.call != "counts" or isinstance(one, awari.Levels)]
+        wants_numpy = awari.Mapped if case.call == "counts" else ()
+        asked = [one for one in objects(room, case.place) if HAS_NUMPY or not isinstance(one, wants_numpy)]
         return [told(lambda: OF_LEVELS[case.call](one, *given)) for one in asked for given in boards(case)]
     # what takes an array of boards takes no words
     given = [found for found in boards(case) if case.call != "rank" or isinstance(found[0], list)]

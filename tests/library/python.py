@@ -68,7 +68,8 @@ def try_threads(levels):
     longest, counts = levels.longest(BOARD), levels.counts(4)
     calls = [
         lambda: levels.entry(BOARD) == entry, lambda: levels.line(BOARD) == line, lambda: levels.moves(BOARD) == moves,
-        lambda: levels.share().entry(BOARD) == entry, lambda: levels.longest(BOARD) == longest, lambda: levels.counts(4) == counts,
+        lambda: levels.share().entry(BOARD) == entry, lambda: levels.longest(BOARD) == longest,
+        lambda: levels.counts(4) == counts,
     ]
     failed = []
 
@@ -153,8 +154,8 @@ def try_refused_drafts(levels):
     for call in (levels.spread, levels.finish):
         expect("a level that was not begun", refused(call), "59 NotYet")
     levels.begin()
-    for boards, wanted in ((0, "ValueError a slice is 1"), (-1, "ValueError a slice is 1"), (1.5, "TypeError a slice is a whole")):
-        expect(f"a slice of {boards}", refused(lambda: levels.spread(boards)).startswith(wanted), True)
+    for boards, wanted in ((0, "ValueError"), (-1, "ValueError"), (1.5, "TypeError")):
+        expect(f"a slice of {boards}", str(refused(lambda: levels.spread(boards))).split()[0], wanted)
     levels.spread(5000)
     levels.begin()
     expect("what is begun anew", levels.spread(1).boards, 0)
@@ -167,7 +168,8 @@ def try_drafts(folder):
     levels = awari.Levels(folder, ASKED - 1)
     shared, digests = levels.share(), [row["digest"] for row in rows_of_levels()]
     try_refused_drafts(levels)
-    expect("another builds the level meanwhile", (shared.build()[-32:].hex(), len(shared), len(levels)), (digests[ASKED], ASKED + 1, ASKED))
+    expect("the level that another builds", shared.build()[-32:].hex(), digests[ASKED])
+    expect("how many levels there are of each", (len(shared), len(levels)), (ASKED + 1, ASKED))
     expect("the level that was begun", (finish(levels), len(levels)), (digests[ASKED], ASKED + 1))
     expect("what was put on", (refused(levels.spread), refused(levels.finish)), ("59 NotYet", "59 NotYet"))
     levels.begin()
@@ -177,7 +179,8 @@ def try_drafts(folder):
     expect("what another thread has put on", (refused(lambda: finish(levels)), len(levels)), ("59 NotYet", ASKED + 2))
     levels.begin()
     levels.close()
-    expect("a level that was given up", (refused(levels.spread), refused(levels.finish), len(levels)), ("59 NotYet", "59 NotYet", 0))
+    expect("a level that was given up", (refused(levels.spread), refused(levels.finish)), ("59 NotYet", "59 NotYet"))
+    expect("how many levels there are then", len(levels), 0)
 
 
 def run_together(calls):
@@ -204,7 +207,8 @@ def try_builders(folder):
         digests.append(refused(lambda: bytes(levels.build()[-32:]).hex()))
 
     run_together([build] * 3 + [ask] * THREADS)
-    expect("levels of three builders", (sorted(digests), wrong, len(levels)), (sorted(row["digest"] for row in rows), [], ASKED + 3))
+    expect("levels of three builders", sorted(digests), sorted(row["digest"] for row in rows))
+    expect("what was told meanwhile", (wrong, len(levels)), ([], ASKED + 3))
 
 
 def try_slices_in_threads(folder):
@@ -425,7 +429,8 @@ def try_public():
 def try_examples():
     """The examples of the docstrings, but those of arrays if numpy is not here."""
     before, levels = os.getcwd(), TOP / "examples" / "levels"
-    has_numpy, needs_numpy = importlib.util.find_spec("numpy"), re.compile("probe_many|entries|values|tally|rank_many|boards[(]")
+    has_numpy = importlib.util.find_spec("numpy")
+    needs_numpy = re.compile("probe_many|entries|values|tally|rank_many|boards[(]")
     here = {"levels": awari.Levels(levels), "mapped": awari.Levels.mapped(levels)}
     runner, cases = doctest.DocTestRunner(verbose=False), doctest.DocTestFinder().find(awari, extraglobs=here)
     os.chdir(levels.parent)

@@ -26,8 +26,9 @@ async function opened(place) {
 const CALLS = {
   entry: (levels, board) => {
     const { value, plan, distance } = levels.entry(board), [one] = levels.probeMany([board]);
-    const isSame = levels.value(board) === value && one.plan === plan && one.distance === distance && one.value === value;
-    return `${value} ${plan ?? "-"} ${distance}${isSame ? "" : ", and otherwise by another call"}`;
+    const isSame = one.value === value && one.plan === plan && one.distance === distance;
+    const isAlone = levels.value(board) === value;
+    return `${value} ${plan ?? "-"} ${distance}${isSame && isAlone ? "" : ", and otherwise by another call"}`;
   },
   moves: (levels, board) => list(levels.moves(board), it => `${it.pit} ${it.captures} ${it.value} ${it.distance}`),
   line: (levels, board) => {
@@ -39,9 +40,9 @@ const CALLS = {
   build: levels => {
     const own = levels.share(), level = own.length, file = own.build();
     if (own.length !== level + 1 || levels.length !== level) return "another number of levels";
-    const digest = Buffer.from(file.subarray(-32)).toString("hex");
     own.close();
-    return createHash("sha256").update(file.subarray(0, -32)).digest("hex") === digest ? `${level} ${digest}` : "another digest";
+    const digest = createHash("sha256").update(file.subarray(0, -32)).digest("hex");
+    return Buffer.from(file.subarray(-32)).toString("hex") === digest ? `${level} ${digest}` : "another digest";
   },
   legal: (_, board) => pits(none.legal(board)),
   sentence: (_, number) => none.sentence(Number(number)),

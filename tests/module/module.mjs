@@ -325,7 +325,8 @@ function compareOtherCalls(levels, boards) {
   expectRefused(20, () => levels.movesIn([files[0], files[0]], levels.board(1, 0)));
   expectRefused(59, () => levels.movesIn([], levels.board(0, 0)));
   expectRefused(3, () => levels.legal(Array(12).fill(5)));
-  expect("the version", levels.version === JSON.parse(readFileSync(new URL("../../bindings/package.json", import.meta.url))).version);
+  const about = JSON.parse(readFileSync(new URL("../../bindings/package.json", import.meta.url)));
+  expect("the version", levels.version === about.version);
   expect("the sentence of 3", levels.sentence(3) === "A board has at most 48 stones" && levels.sentence(255).length > 9);
 }
 

@@ -16,9 +16,10 @@
 //! # }
 //! ```
 //!
-//! [`Levels`] reads and verifies files, and keeps three bytes a board. It builds the next level too. [`Mapped`] leaves large levels in mapped
-//! files: it opens at once, and verifies nothing. Any number of threads may ask one of either kind. At `Levels`
-//! they wait for each other, and at `Mapped` they don't. `examples/engine.rs` is a search in eight threads.
+//! [`Levels`] reads and verifies files, and keeps three bytes a board. It builds the next level too. [`Mapped`]
+//! leaves large levels in mapped files: it opens at once, and verifies nothing. Any number of threads may ask one of
+//! either kind. At `Levels` they wait for each other, and at `Mapped` they don't. `examples/engine.rs` is a search
+//! in eight threads.
 //!
 //! The library is `libawari.a`: see `build.rs` for where it is looked for. It runs on x86-64 Linux.
 

@@ -157,3 +157,14 @@ impl fmt::Display for Refusal {
 }
 
 impl Error for Refusal {}
+
+#[cfg(test)]
+mod tests {
+    use super::{PlainFault, Refusal};
+
+    #[test]
+    fn each_answer_keeps_its_number() {
+        let answers = [1, 2, 3, 4, 5, 6, 7, 20, 51, 53, 59, 60, 67, 70, 80, 81, 82, 83, 84, 86, 93];
+        assert_eq!(answers.map(|answer| Refusal::of(answer, PlainFault::default()).number()), answers);
+    }
+}
