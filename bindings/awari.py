@@ -568,7 +568,9 @@ class Levels(_Answers):
         return found
 
     def share(self) -> Levels:
-        """The same levels in an object of their own, which is closed by itself. None is copied.
+        """The same levels in an object of their own, which is closed by itself.
+
+        None is copied, and a level that was begun is not shared.
 
         >>> with levels.share() as shared:
         ...     len(shared)
@@ -654,9 +656,10 @@ class Levels(_Answers):
 
     def _begun(self) -> Levels:
         """What has the levels and the next one, which was begun. A long call has it, and others don't ask it."""
-        if self._draft is None:
+        draft = self._draft
+        if draft is None:
             raise Refused(59)
-        return self._draft
+        return draft
 
     def close(self) -> None:
         """Gives the levels back, if no other object shares them, and one that was begun."""
