@@ -140,7 +140,8 @@ function compareHighLine(levels) {
 
 const LONG = 3000, FAR = 4_000_000_001;
 
-/** Calls that tell what no level has that a test can build: long lines, great distances and sizes, want of memory. */
+/** Calls that tell what no level has that a test can build: long lines, great distances and sizes, want of memory; and
+ * another version. */
 function unlikely(view) {
   const put = (place, bytes) => bytes.forEach((byte, at) => view().setUint8(Number(place) + at, byte));
   return {
@@ -161,6 +162,7 @@ function unlikely(view) {
       return 84;
     },
     awari_size: () => -1,
+    awari_version: () => 12_03_04,
   };
 }
 
@@ -173,6 +175,7 @@ async function tellMore() {
   const told = JSON.stringify(levels.moves(none));
   expect(`moves ${told}`, told === JSON.stringify([{ pit: 1, captures: 48, value: -300, distance: FAR }]));
   expect(`a size of ${levels.size(24)}`, levels.size(24) === 2 ** 32 - 1);
+  expect(`version ${levels.version}`, levels.version === "12.3.4");
   try {
     levels.add(new Uint8Array(1));
     expect("want of memory is not told", false);
