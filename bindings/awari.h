@@ -104,6 +104,13 @@ uint8_t awari_play(const uint8_t pits[12], uint8_t pit, uint8_t out[12], uint8_t
 /* How many boards a level has, 0 if it is above 24. */
 uint32_t awari_size(uint8_t level);
 
+/* The highest level that this library knows, which is 24. */
+static inline uint8_t awari_highest(void) {
+    uint8_t level = 0;
+    while (awari_size((uint8_t)(level + 1))) level++;
+    return level;
+}
+
 /* The level of a board, which is its stones, and its rank there: 0, 3, or 59 for more than 24 stones. */
 uint8_t awari_rank(const uint8_t pits[12], uint8_t *level, uint32_t *rank);
 

@@ -48,6 +48,7 @@ static void try_boards(void) {
     EXPECT(awari_parse("49,0,0,0,0,0/0,0,0,0,0,0", 24, pits) == AWARI_TOO_MANY);
     EXPECT(awari_parse("48,0,0,0,0,0/0,0,0,0,0,0", 24, pits) == AWARI_OK && !memcmp(pits, stones_48, 12));
     EXPECT(awari_size(0) == 1 && awari_size(24) == 417225900 && awari_size(25) == 0 && awari_size(255) == 0);
+    EXPECT(awari_highest() == 24);
     EXPECT(awari_rank(stones_25, &level, &rank) == AWARI_NOT_YET && level == 9 && rank == 9);
     EXPECT(awari_rank(stones_49, &level, &rank) == AWARI_TOO_MANY && level == 9 && rank == 9);
     EXPECT(awari_rank(one, &level, &rank) == AWARI_OK && level == 1 && rank == 11);
