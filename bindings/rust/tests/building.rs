@@ -123,7 +123,7 @@ fn refusals_of_building_have_their_numbers() {
         "No level is above 24",
         "There is not enough memory to build the level",
         "The level of that many stones is not there",
-        "The file can't be written, or not be brought to the disk",
+        "The file can't be written, or can't be brought to the disk",
     ];
     assert_eq!(refusals.map(Refusal::sentence), sentences);
 }

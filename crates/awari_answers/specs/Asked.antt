@@ -5,7 +5,7 @@ use Rattle.awari_board.specs.MoveFault.{number_of, reason_of as move_reason_of}
 use Rattle.awari_board.specs.Rules.{IsBoard}
 use Rattle.awari_board.specs.Text.{text_of}
 use Rattle.awari_faults.specs.Refusals.{Words, alone, with_number}
-use Rattle.awari_folder.specs.Contents.{AreNames, IsFaultTo, IsStoredToIn, OpenIfRefused, Refusals}
+use Rattle.awari_folder.specs.Contents.{AreNames, IsFaultTo, IsStoredToIn, OpenIfRefused, Refusals, Stands}
 use Rattle.awari_folder.specs.FolderFault.{refusal_of as folder_refusal_of}
 use Rattle.awari_folder.specs.State.{State, Unchanged}
 use Rattle.awari_folder.specs.declared.faults.FolderFault.{FolderFault}
@@ -18,17 +18,17 @@ use Rattle.awari_answers.specs.declared.asked.NoAnswer.{NoAnswer}
 use Rattle.awari_answers.specs.declared.asked.NoAnswer.TheVariants.{Board, Move, MoveAt, Folder, NotYet, Line, Memory, NoRank, Overflow, Span, Column}
 
 -- These are right levels: those up to this one that the folder stores, where it is known what its names have.
-pub record AreLevelsTo (most : ℕ) (stands : ℕ → Option (Option (List ℕ))) (images : List Image) : Type 0 where
+pub record AreLevelsTo (most : ℕ) (stands : Stands) (images : List Image) : Type 0 where
   pub digest : List ℕ
   pub stored : IsStoredToIn most stands images digest
   pub right : IsShelf images
 
 -- Where it is known what the names have, this is the first fault of the levels up to this one.
-abbrev pub IsUnloaded : Type 0 → ℕ → (ℕ → Option (Option (List ℕ))) → FolderFault → Type 0
+abbrev pub IsUnloaded : Type 0 → ℕ → Stands → FolderFault → Type 0
 IsUnloaded lacked most stands fault = (names : ℕ → Option (List ℕ)) → AreNames stands names → IsFaultTo lacked most names fault
 
 -- The text spells this board, and these are the levels up to the board's.
-pub record IsAsked (stands : ℕ → Option (Option (List ℕ))) (text : List ℕ) (images : List Image) (board : List ℕ) : Type 0 where
+pub record IsAsked (stands : Stands) (text : List ℕ) (images : List Image) (board : List ℕ) : Type 0 where
   pub levels : AreLevelsTo (min (sum board) HIGHEST_LEVEL) stands images
   pub whole : IsBoard board
   pub spelled : text ≡ text_of board
@@ -39,7 +39,7 @@ TellsOpen (Err (Folder fault)) old new = OpenIfRefused {T = Unit {0}} (Err fault
 TellsOpen result old new = new ≡ old
 
 -- the text is no board, or the levels up to its board's are refused
-abbrev pub IsUnasked : Type 0 → (ℕ → Option (Option (List ℕ))) → List ℕ → NoAnswer → Type 0
+abbrev pub IsUnasked : Type 0 → Stands → List ℕ → NoAnswer → Type 0
 IsUnasked lacked stands text (Board fault) = IsFaulty text fault
 IsUnasked lacked stands text (Folder fault) = (board : List ℕ) × (text ≡ text_of board) × IsUnloaded lacked (min (sum board) HIGHEST_LEVEL) stands fault
 IsUnasked lacked stands text fault = ⊥

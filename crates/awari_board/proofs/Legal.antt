@@ -43,7 +43,7 @@ below_six P a b c d e f (suc (suc (suc (suc zero)))) own = e
 below_six P a b c d e f (suc (suc (suc (suc (suc zero))))) own = f
 below_six P a b c d e f (suc (suc (suc (suc (suc (suc x)))))) own = absurd (omega arith)
 
-not_legal : (board : List ℕ) (x : ℕ) → (IsLegal board x → ⊥) → is_legal board x ≡ false
+pub not_legal : (board : List ℕ) (x : ℕ) → (IsLegal board x → ⊥) → is_legal board x ≡ false
 not_legal board x none = go (is_legal board x) refl
   where
     go : (b : Bool) → is_legal board x ≡ b → b ≡ false

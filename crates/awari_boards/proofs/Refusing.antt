@@ -1,10 +1,10 @@
 -- Why nothing is told of a board, by right levels or by what files say.
-use Rattle.std.proofs.Common.{◌≡◌, ◌<◌, ◌≤◌, ◌↔◌, ◌∙◌, ◌⊎◌, ℕ, Bool, true, false, List, Option, arith, inl, inr, length, nat_lt, refl, subst, sum}
+use Rattle.std.proofs.Common.{◌≡◌, ◌<◌, ◌≤◌, ◌↔◌, ◌∙◌, ◌⊎◌, ℕ, Bool, true, false, List, arith, inl, inr, length, nat_lt, refl, subst, sum}
 use Rattle.std.proofs.lemmas.Bool.Decides.{nat_tests}
 use Rattle.awari_answers.specs.Asked.{IsAsked, IsUnasked}
 use Rattle.awari_answers.specs.declared.asked.NoAnswer.{NoAnswer}
 use Rattle.awari_answers.specs.declared.asked.NoAnswer.TheVariants.{Folder}
-use Rattle.awari_folder.specs.Contents.{Same}
+use Rattle.awari_folder.specs.Contents.{Same, Stands}
 use Rattle.awari_folder.specs.declared.faults.FolderFault.{FolderFault}
 use Rattle.awari_places.proofs.Reading.{still_says}
 use Rattle.awari_places.specs.Faults.{IsPliesFault, IsRefusedAt}
@@ -13,9 +13,6 @@ use Rattle.awari_places.specs.declared.opening.Opened.{Opened}
 use Rattle.awari_table.specs.declared.images.Image.{Image}
 use Rattle.awari_boards.specs.Known.{IsOpened}
 use Rattle.awari_boards.specs.Refused.{IsBeyond, IsNotThere, IsUnknown, IsUnopenedFor}
-
-abbrev Stands : Type 0
-Stands = ℕ → Option (Option (List ℕ))
 
 abbrev Dues : Type 1
 Dues = ℕ → List ℕ → FolderFault → Type 0

@@ -4,7 +4,7 @@ use Rattle.awari_desk.specs.Service.{Answered, none, more, Served, ended, unende
 use Rattle.awari_desk.specs.declared.answers.Answer.{Answer}
 use Rattle.awari_desk.specs.declared.answers.Answer.TheVariants.{Found, Moves, Probed, Unprobed, Unanswered, Refused, Seen, Bye, What}
 use Rattle.awari_desk.specs.declared.faults.ProbeFault.TheVariants.{Board, Ask}
-use Rattle.awari_folder.specs.Contents.{Same}
+use Rattle.awari_folder.specs.Contents.{Same, Stands}
 use Rattle.awari_folder.specs.State.{State}
 use Rattle.awari_places.proofs.Reading.{still_says}
 use Rattle.awari_places.proofs.Refusing.{look_before, refused_before}
@@ -18,9 +18,6 @@ use Rattle.awari_boards.specs.Said.{AreMovesSaid, IsEntrySaid, IsServedSaid, by_
 use Rattle.awari_boards.specs.declared.files.Asked.{Asked}
 use Rattle.awari_boards.specs.declared.unsaid.Unsaid.{Unsaid}
 use Rattle.awari_boards.specs.declared.unsaid.Unsaid.TheVariants.{NotYet, Folder}
-
-abbrev Stands : Type 0
-Stands = ℕ → Option (Option (List ℕ))
 
 -- what is said of names that have what they had
 entry_before : (old new : Stands) → Same old new → (levels then : ℕ) (board : List ℕ) (said : Result Entry Unsaid) → IsEntrySaid new levels then board said → IsEntrySaid old levels then board said

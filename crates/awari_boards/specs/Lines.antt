@@ -3,6 +3,7 @@ use Rattle.std.specs.Prelude.{◌≡◌, ℕ, Bool, true, false, List, ◌++◌,
 use Rattle.std.specs.Fmt.{decimal, signed_decimal}
 use Rattle.std.specs.List.{flat_map}
 use Rattle.std.specs.Io.KnownBytes.{Appends}
+use Rattle.awari_folder.specs.Contents.{Stands}
 use Rattle.awari_members.specs.Members.{line_text as line_text_in, number, pits, signed, text}
 use Rattle.awari_play.specs.BestLine.{IsBestLine}
 use Rattle.awari_play.specs.LongestLine.{IsLongestLine}
@@ -30,7 +31,7 @@ pub record SayLongest (board : List ℕ) (value : ℤ) (dist : ℕ) (moves : Lis
   pub line : IsLongestLine (table_of images) board moves
 
 -- such a line from the board that the text spells; by right levels its outcome is the value
-pub record IsLineOf (unverified : Bool) (stands : ℕ → Option (Option (List ℕ))) (text : List ℕ) (value : ℤ) (moves : List ℕ) (outcome : ℤ) : Type 0 where
+pub record IsLineOf (unverified : Bool) (stands : Stands) (text : List ℕ) (value : ℤ) (moves : List ℕ) (outcome : ℤ) : Type 0 where
   pub board : List ℕ
   pub line : IsKnown unverified stands text board (SayLine board value moves outcome)
   pub comes : unverified ≡ false → outcome ≡ value
@@ -63,7 +64,7 @@ shown_longest false text value dist moves = longest_text value dist moves
 
 -- Where it is known what the writer holds, what was written is the line of play that is asked for: ply by ply, with one side that
 -- holds out, or by the plans of both sides.
-abbrev pub PrintsLineBy : Bool → Bool → LineQuery → (ℕ → Option (Option (List ℕ))) → Option (List ℕ) → Option (List ℕ) → Type 0
+abbrev pub PrintsLineBy : Bool → Bool → LineQuery → Stands → Option (List ℕ) → Option (List ℕ) → Type 0
 PrintsLineBy true longest q stands before after = (board : List ℕ) × (plies : List Ply) × (repeat : Option Repeat)
     × IsKnown q.unverified stands q.board.now board (λ images. AreLinePlies q.longest images board plies repeat) × Appends before after (shown_line q.json plies repeat)
 PrintsLineBy false true q stands before after = (board : List ℕ) × (value : ℤ) × (dist : ℕ) × (moves : List ℕ)
@@ -71,5 +72,5 @@ PrintsLineBy false true q stands before after = (board : List ℕ) × (value : �
 PrintsLineBy false false q stands before after = (value : ℤ) × (moves : List ℕ) × (outcome : ℤ) × IsLineOf q.unverified stands q.board.now value moves outcome
     × Appends before after (shown_best q.json q.board.now value moves outcome ++ 10 ∷ [])
 
-abbrev pub PrintsLine : LineQuery → (ℕ → Option (Option (List ℕ))) → Option (List ℕ) → Option (List ℕ) → Type 0
+abbrev pub PrintsLine : LineQuery → Stands → Option (List ℕ) → Option (List ℕ) → Type 0
 PrintsLine q = PrintsLineBy q.plies q.longest q

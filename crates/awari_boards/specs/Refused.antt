@@ -1,5 +1,6 @@
 -- Why a command that looks a board up gives no answer: over right levels in a folder, or unverified, by what its files say.
-use Rattle.std.specs.Prelude.{◌≡◌, ◌⊎◌, ℕ, ◌<◌, ◌≤◌, Bool, false, true, List, Option, length, min, sum}
+use Rattle.std.specs.Prelude.{◌≡◌, ◌⊎◌, ℕ, ◌<◌, ◌≤◌, Bool, false, true, List, length, min, sum}
+use Rattle.awari_folder.specs.Contents.{Stands}
 use Rattle.awari_board.specs.BoardFault.{IsFaulty}
 use Rattle.awari_board.specs.Text.{text_of}
 use Rattle.awari_folder.specs.declared.faults.FolderFault.{FolderFault}
@@ -20,20 +21,20 @@ IsBeyond true levels level (Line fault) = IsDue levels level fault
 IsBeyond line levels level fault = ⊥
 
 -- The text spells a board, and the right levels up to the board's are refused so.
-pub record IsUnshelved (line : Bool) (stands : ℕ → Option (Option (List ℕ))) (text : List ℕ) (fault : NoAnswer) : Type 0 where
+pub record IsUnshelved (line : Bool) (stands : Stands) (text : List ℕ) (fault : NoAnswer) : Type 0 where
   pub images : List Image
   pub board : List ℕ
   pub asked : IsAsked stands text images board
   pub due : IsBeyond line (length images) (sum board) fault
 
 -- the text is no board, or the headers of the files up to its board's level are refused
-abbrev pub IsUnopenedFor : (ℕ → Option (Option (List ℕ))) → List ℕ → NoAnswer → Type 0
+abbrev pub IsUnopenedFor : Stands → List ℕ → NoAnswer → Type 0
 IsUnopenedFor stands text (Board fault) = IsFaulty text fault
 IsUnopenedFor stands text (Folder fault) = (board : List ℕ) × (text ≡ text_of board) × IsUnopened (min (sum board) HIGHEST_LEVEL) stands fault
 IsUnopenedFor stands text fault = ⊥
 
 -- The text spells a board, and the board's level is not there by the headers.
-pub record IsNotThere (line : Bool) (stands : ℕ → Option (Option (List ℕ))) (text : List ℕ) (fault : NoAnswer) : Type 0 where
+pub record IsNotThere (line : Bool) (stands : Stands) (text : List ℕ) (fault : NoAnswer) : Type 0 where
   pub board : List ℕ
   pub levels : ℕ
   pub spelled : text ≡ text_of board
@@ -42,7 +43,7 @@ pub record IsNotThere (line : Bool) (stands : ℕ → Option (Option (List ℕ))
   pub due : IsBeyond line levels (sum board) fault
 
 -- The text spells a board, and the board's level is there. The refusal is of files of these levels, and due for the board.
-pub record IsUnread (stands : ℕ → Option (Option (List ℕ))) (text : List ℕ) (Due : ℕ → List ℕ → FolderFault → Type 0) (fault : NoAnswer) : Type 0 where
+pub record IsUnreadFor (stands : Stands) (text : List ℕ) (Due : ℕ → List ℕ → FolderFault → Type 0) (fault : NoAnswer) : Type 0 where
   pub board : List ℕ
   pub levels : Opened
   pub opened : IsOpened stands text board levels
@@ -52,6 +53,6 @@ pub record IsUnread (stands : ℕ → Option (Option (List ℕ))) (text : List �
   pub due : Due levels.levels board inner
 
 -- of a line or not, by right levels or unverified
-abbrev pub IsUnknown : Bool → Bool → Type 0 → (ℕ → Option (Option (List ℕ))) → List ℕ → (ℕ → List ℕ → FolderFault → Type 0) → NoAnswer → Type 0
+abbrev pub IsUnknown : Bool → Bool → Type 0 → Stands → List ℕ → (ℕ → List ℕ → FolderFault → Type 0) → NoAnswer → Type 0
 IsUnknown line false lacked stands text Due fault = IsUnasked lacked stands text fault ⊎ IsUnshelved line stands text fault
-IsUnknown line true lacked stands text Due fault = IsUnopenedFor stands text fault ⊎ (IsNotThere line stands text fault ⊎ IsUnread stands text Due fault)
+IsUnknown line true lacked stands text Due fault = IsUnopenedFor stands text fault ⊎ (IsNotThere line stands text fault ⊎ IsUnreadFor stands text Due fault)

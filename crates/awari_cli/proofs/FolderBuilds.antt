@@ -3,7 +3,7 @@ use Rattle.std.proofs.Common.{arith, ◌≡◌, ◌<◌, ◌≤◌, ◌+◌, inl
 use Rattle.std.specs.Prelude.{IfSome}
 use Rattle.awari_file.specs.FileText.{file_text}
 use Rattle.std.specs.Io.KnownBytes.{Appends}
-use Rattle.awari_folder.specs.Contents.{AreNames, HoldsIn, IsStoredIn, LeavesNoMore, LeavesToo, Same, KeepsFiles}
+use Rattle.awari_folder.specs.Contents.{AreNames, HoldsIn, IsStoredIn, LeavesNoMore, LeavesToo, Same, KeepsFiles, Stands}
 use Rattle.awari_play.specs.Least.{HasLowestPlans}
 use Rattle.awari_table.specs.Shelves.{IsShelf}
 use Rattle.awari_table.specs.declared.images.Image.{Image}
@@ -15,7 +15,7 @@ name_is None name P is holds = absurd cc
 name_is (Some other) name P is holds = let same : other ≡ name = cc in subst P same holds
 
 -- What a save may leave is a whole file.
-pub files_at : (stands : ℕ → Option (Option (List ℕ))) (names : ℕ → Option (List ℕ)) (level m : ℕ) (image : Image) (below : List ℕ) (old new : ℕ → Option (List ℕ) → Type 0)
+pub files_at : (stands : Stands) (names : ℕ → Option (List ℕ)) (level m : ℕ) (image : Image) (below : List ℕ) (old new : ℕ → Option (List ℕ) → Type 0)
     → level ≡ m → IfSome (stands level) (λ name. LeavesToo level (λ left. (name ≡ None) × (left ≡ Some (file_text 2 image below))) old new) → stands m ≡ Some (names m) → LeavesFiles m names old new
 files_at stands names level m image below old new next leaves known n left end =
     let leaves_here = name_is (stands level) (names level) (λ name. LeavesToo level (λ c. (name ≡ None) × (c ≡ Some (file_text 2 image below))) old new) (ap stands next ∙ known ∙ ap (λ k. Some (names k)) (sym next)) leaves in
@@ -25,14 +25,14 @@ pub more_files : (m k : ℕ) (names : ℕ → Option (List ℕ)) (first old new 
 more_files m k names first old new low before after n c left =
     ⊎_elim (λ l. before n c l) (λ r. inr (omega (arith, low, r.0), r.1, r.2)) (after n c left)
 
-pub files_kept : (first old new : ℕ → Option (Option (List ℕ))) → KeepsFiles first old → KeepsFiles old new → KeepsFiles first new
+pub files_kept : (first old new : Stands) → KeepsFiles first old → KeepsFiles old new → KeepsFiles first new
 files_kept first old new before after n bytes is = after n bytes (before n bytes is)
 
 pub longer_by_one : (less : List Image) (image : Image) (shelf : List Image) → shelf ≡ less ++ image ∷ [] → length shelf ≡ length less + 1
 longer_by_one less image shelf put = ap length put ∙ length-append less (image ∷ [])
 
 -- What is built on what was loaded, and printed.
-pub prints_on : (old mid new : ℕ → Option (Option (List ℕ))) (top : ℕ) (below shelf : List Image) (under digest : List ℕ) (before after : Option (List ℕ))
+pub prints_on : (old mid new : Stands) (top : ℕ) (below shelf : List Image) (under digest : List ℕ) (before after : Option (List ℕ))
     → IsStoredIn old below under → Same old mid → IsShelf shelf × (top < length shelf) → (HoldsIn mid below under → HoldsIn new shelf digest)
     → (HasLowestPlans below → HasLowestPlans shelf)
     → (built : List Image) × (shelf ≡ below ++ built) × Appends before after (level_lines built) → PrintsLevels top old new before after
@@ -51,7 +51,7 @@ prints_on old mid new top below shelf under digest before after stored same righ
   lines,
 )
 
-pub keeps_on : (old mid new : ℕ → Option (Option (List ℕ))) (left middle leaves : ℕ → Option (List ℕ) → Type 0) (top : ℕ) (below : List Image) (under : List ℕ)
+pub keeps_on : (old mid new : Stands) (left middle leaves : ℕ → Option (List ℕ) → Type 0) (top : ℕ) (below : List Image) (under : List ℕ)
     → IsStoredIn old below under → Same old mid → LeavesNoMore left middle → SameOutside (length below) top mid new
     → ((names : ℕ → Option (List ℕ)) → AreNames mid names → LeavesFiles (length below) names middle leaves)
     → (names : ℕ → Option (List ℕ)) → AreNames old names → KeepsLevels top names old new left leaves

@@ -5,7 +5,7 @@ use Rattle.awari_answers.specs.LevelLines.{level_line, level_lines}
 use Rattle.awari_play.specs.Least.{HasLowestPlans}
 use Rattle.awari_table.specs.Shelves.{Consistent, IsShelf}
 use Rattle.awari_table.specs.declared.images.Image.{Image}
-use Rattle.awari_folder.specs.Contents.{AreNames, HoldsIn, IsStored, LeavesNoMore, Same, SameBut, KeepsFiles}
+use Rattle.awari_folder.specs.Contents.{AreNames, HoldsIn, IsStored, LeavesNoMore, Same, SameBut, KeepsFiles, Stands}
 use Rattle.awari_migrate.specs.Migration.{IsWholeFile}
 use Rattle.awari_folder.specs.State.{State}
 
@@ -18,13 +18,13 @@ pub record BuildsTo (top : ℕ) (old new : List Image) (before after : Option (L
 
 -- Where it is known what a folder's names have: the levels below were stored in it, and now it holds those and the ones that
 -- were built on them.
-abbrev pub IsBuiltIn : (ℕ → Option (Option (List ℕ))) → (ℕ → Option (Option (List ℕ))) → List Image → List Image → Type 0
+abbrev pub IsBuiltIn : Stands → Stands → List Image → List Image → Type 0
 IsBuiltIn old new below built = (names : ℕ → Option (List ℕ)) → AreNames old names
     → (under digest : List ℕ) × IsStored names below under × HoldsIn new (below ++ built) digest
 
 -- Where it is known what the writer holds, what was written are the lines of right levels, over those that were stored in the
 -- folder, up to level `top` at least. The plans of all of them are the lowest, where those that were stored are.
-abbrev pub PrintsLevels : ℕ → (ℕ → Option (Option (List ℕ))) → (ℕ → Option (Option (List ℕ))) → Option (List ℕ) → Option (List ℕ) → Type 0
+abbrev pub PrintsLevels : ℕ → Stands → Stands → Option (List ℕ) → Option (List ℕ) → Type 0
 PrintsLevels top old new before after = (below built : List Image) × IsShelf (below ++ built) × (top < length (below ++ built)) × IsBuiltIn old new below built
     × (HasLowestPlans below → HasLowestPlans (below ++ built)) × Appends before after (level_lines built)
 
@@ -34,7 +34,7 @@ abbrev pub PrintsAllLevels : ℕ → Option (List ℕ) → Option (List ℕ) →
 PrintsAllLevels top before after = (built : List Image) × IsShelf built × (length built ≡ top + 1) × HasLowestPlans built × Appends before after (level_lines built)
 
 -- each of the levels below `low` and above `top` has what it had
-abbrev pub SameOutside : ℕ → ℕ → (ℕ → Option (Option (List ℕ))) → (ℕ → Option (Option (List ℕ))) → Type 0
+abbrev pub SameOutside : ℕ → ℕ → Stands → Stands → Type 0
 SameOutside low top old new = (n : ℕ) → (n < low) ⊎ (top < n) → new n ≡ old n
 
 -- A crash may leave nothing else than before, but a whole file under the names from level `low` on that had none.
@@ -59,7 +59,7 @@ pub record SavesTop (shelf : List Image) (below own : List ℕ) (old new : State
 
 -- Nothing is changed, or levels were stored and each of their files stays, as does what has the names above `top`; and a crash
 -- leaves what it might have left before, or a whole file under a name above those levels that had none.
-abbrev pub KeepsLevels : ℕ → (ℕ → Option (List ℕ)) → (ℕ → Option (Option (List ℕ))) → (ℕ → Option (Option (List ℕ)))
+abbrev pub KeepsLevels : ℕ → (ℕ → Option (List ℕ)) → Stands → Stands
     → (ℕ → Option (List ℕ) → Type 0) → (ℕ → Option (List ℕ) → Type 0) → Type 0
 KeepsLevels top names old new left leaves = (Same old new × LeavesNoMore left leaves)
     ⊎ ((below : List Image) × (under : List ℕ) × IsStored names below under × SameOutside (length below) top old new × LeavesFiles (length below) names left leaves)

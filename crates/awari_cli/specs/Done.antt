@@ -3,9 +3,8 @@ use Rattle.std.specs.Prelude.{◌≡◌, ◌≢◌, ℕ, Bool, List, [], Option,
 use Rattle.std.specs.Borrow.{Bor}
 use Rattle.std.specs.Io.KnownBytes.{Keeps}
 use Rattle.awari_check.specs.Answer.{PrintsYes}
-use Rattle.awari_folder.specs.Contents.{Same, KeepsFiles}
+use Rattle.awari_folder.specs.Contents.{Same, KeepsFiles, Stands}
 use Rattle.awari_cli.specs.Building.{PrintsAllLevels, PrintsLevels}
-use Rattle.awari_host.specs.Hosts.{Stands}
 use Rattle.awari_cli.specs.Migrating.{PrintsMigrated}
 use Rattle.awari_cli.specs.Serving.{PrintsService}
 use Rattle.awari_boards.specs.Asks.{PrintsEntry}

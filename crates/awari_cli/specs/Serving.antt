@@ -3,7 +3,7 @@ use Rattle.std.specs.Prelude.{◌<◌, ℕ, List, length, Option}
 use Rattle.awari_build.specs.declared.faults.BuildFault.TheVariants as build_fault
 use Rattle.awari_desk.specs.Desks.{by_reader}
 use Rattle.awari_desk.specs.Service.{IsInput, HasServed}
-use Rattle.awari_folder.specs.Contents.{IsStoredIn}
+use Rattle.awari_folder.specs.Contents.{IsStoredIn, Stands}
 use Rattle.awari_phase.specs.declared.faults.PhaseFault.TheVariants as phase_fault
 use Rattle.awari_table.specs.Shelves.{IsShelf}
 use Rattle.awari_table.specs.declared.images.Image.{Image}
@@ -15,7 +15,7 @@ abbrev pub IsServed : List Image → Option (List ℕ) → Option (List ℕ) →
 IsServed known input before after = (bytes : List ℕ) × (last : List Image) × IsInput input bytes × HasServed by_reader known before bytes after last
 
 -- The reader knew right levels: those that the folder stores, where it is known what its names have.
-abbrev pub PrintsService : (ℕ → Option (Option (List ℕ))) → Option (List ℕ) → Option (List ℕ) → Option (List ℕ) → Type 0
+abbrev pub PrintsService : Stands → Option (List ℕ) → Option (List ℕ) → Option (List ℕ) → Type 0
 PrintsService stands input before after = (images : List Image) × (digest : List ℕ) × IsShelf images × IsStoredIn stands images digest × IsServed images input before after
 
 -- Right levels up to `top` at least are there. No definition says that there are any: a shelf of them shows it, which is built.

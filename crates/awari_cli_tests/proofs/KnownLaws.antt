@@ -2,7 +2,8 @@
 use Rattle.std.proofs.Common.{◌≡◌, ◌≢◌, ◌∙◌, ℕ, List, Some, None, Bool, true, false, codes, refl, sym, ap}
 use Rattle.std.specs.Prelude.{bytes_eq}
 use Rattle.std.proofs.lemmas.Slice.Eq.{bytes_eq-Decides}
-use Rattle.awari_host.specs.Hosts.{OthersStay, Stands}
+use Rattle.awari_folder.specs.Contents.{Stands}
+use Rattle.awari_host.specs.Hosts.{OthersStay}
 use Rattle.awari_file_tests.specs.Log.{files_in}
 use Rattle.awari_file_tests.specs.declared.memory.MemoryFolder.{MemoryFolder}
 use Rattle.awari_cli_tests.specs.Known.{chosen, known_of, stands_in}

@@ -1,7 +1,7 @@
 -- What is known of the folders of the host in memory: all of its two, and that any other is empty.
 use Rattle.std.specs.Prelude.{ℕ, List, Some, None, Bool, true, false, codes}
 use Rattle.std.specs.Str.{bytes_eq}
-use Rattle.awari_host.specs.Hosts.{Stands}
+use Rattle.awari_folder.specs.Contents.{Stands}
 use Rattle.awari_file_tests.specs.Log.{files_in}
 use Rattle.awari_file_tests.specs.declared.memory.MemoryFolder.{MemoryFolder}
 use Rattle.awari_cli_tests.specs.declared.hosts.MemoryHost.{MemoryHost}

@@ -5,7 +5,7 @@ use Rattle.std.specs.Io.KnownBytes.{Appends}
 use Rattle.std.specs.Prelude.{IfErr}
 use Rattle.std.specs.List.{flat_map, range_with_len}
 use Rattle.awari_facts.specs.Sources.{limit_of}
-use Rattle.awari_folder.specs.Contents.{Same}
+use Rattle.awari_folder.specs.Contents.{Same, Stands}
 use Rattle.awari_folder.specs.declared.faults.FolderFault.{FolderFault}
 use Rattle.awari_places.proofs.Reading.{still_says}
 use Rattle.awari_places.proofs.Running.{fault_before}
@@ -75,11 +75,11 @@ appended query by pair form level images before after named asked is lines = rec
   lines = subst (λ f. Appends before after (pair_lines f pair images level (limit_of images level))) is lines;
 }
 
-pub printed-verified : (stands : ℕ → Option (Option (List ℕ))) (query : CountsQuery) (before after : Option (List ℕ)) → query.unverified ≡ false → PrintsPairs stands query before after
+pub printed-verified : (stands : Stands) (query : CountsQuery) (before after : Option (List ℕ)) → query.unverified ≡ false → PrintsPairs stands query before after
     → PrintsPairsBy query.unverified stands query before after
 printed-verified stands query before after is printed = subst (λ b. PrintsPairsBy b stands query before after) (sym is) printed
 
-pub printed-said : (stands : ℕ → Option (Option (List ℕ))) (query : CountsQuery) (before after : Option (List ℕ)) → query.unverified ≡ true → PrintsPairsSaid stands query before after
+pub printed-said : (stands : Stands) (query : CountsQuery) (before after : Option (List ℕ)) → query.unverified ≡ true → PrintsPairsSaid stands query before after
     → PrintsPairsBy query.unverified stands query before after
 printed-said stands query before after is printed = subst (λ b. PrintsPairsBy b stands query before after) (sym is) printed
 
@@ -92,9 +92,6 @@ table-asked form table images level pair limit items counts before after is up_t
     subst (λ l. Appends before after (pair_lines form pair images level l)) up_to (subst (λ (t : CellTable). Appends before after (pair_lines form t.pair images t.level t.limit)) is written)
 
 -- ---- why boards are not counted by a file, where no name changed
-
-abbrev Stands : Type 0
-Stands = ℕ → Option (Option (List ℕ))
 
 count-still : (table : CellTable) (old new : Stands) (fault : FolderFault) → Same old new → IsCountFault table new fault → IsCountFault table old fault
 count-still table old new fault same (inl is) = inl is

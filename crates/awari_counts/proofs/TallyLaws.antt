@@ -6,7 +6,7 @@ use Rattle.std.proofs.lemmas.Bool.{cases_lt}
 use Rattle.std.proofs.lemmas.List.{ext_get_or, get_or_append_left, get_or_default, get_or_push, length-append, length-set}
 use Rattle.std.proofs.lemmas.List.FromFn.{length-map-range_with_len}
 use Rattle.std.proofs.lemmas.Option.{get_or_from_slice_get, slice_get_within}
-use Rattle.awari_folder.specs.Contents.{Same}
+use Rattle.awari_folder.specs.Contents.{Same, Stands}
 use Rattle.awari_folder.specs.declared.faults.FolderFault.{FolderFault}
 use Rattle.awari_places.proofs.Reading.{image_got, levels_said}
 use Rattle.awari_places.specs.Places.{entry_in, image_in}
@@ -44,7 +44,7 @@ passed-more test entries e n false before is = omega (arith, before, count_by-pu
 abbrev numbers_as : ℕ → ℕ → ℕ → Tally → Numbers
 numbers_as level boards limit tally = record { told = record { level = level; boards = boards; counts = tally.counts; limit = limit }; tally = tally }
 
-pub numbered : (source : Source) (stands : ℕ → Option (Option (List ℕ))) (level boards limit : ℕ) (tally : Tally) (images : List Image) → IsTallied source stands level limit tally → SaysBy source stands images
+pub numbered : (source : Source) (stands : Stands) (level boards limit : ℕ) (tally : Tally) (images : List Image) → IsTallied source stands level limit tally → SaysBy source stands images
     → limit ≡ limit_of images level → boards ≡ size_of level → IsSomeAnd (slice_get images level) (λ image. AreNumbersOf image (numbers_as level boards limit tally))
 numbered source stands level boards limit tally images tallied says is many =
     let (image, found, same) = image_of (slice_get images level) (λ image. (image.level ≡ level) × (image.entries ≡ tallied.entries)) (tallied.said images says) in
@@ -57,22 +57,22 @@ numbered source stands level boards limit tally images tallied says is many =
     subst (λ (o : Option Image). IsSomeAnd o (λ m. AreNumbersOf m (numbers_as level boards limit tally))) (sym found) are
 
 -- as many levels speak
-pub levels_by : (source : Source) (stands : ℕ → Option (Option (List ℕ))) (images : List Image) → SaysBy source stands images → length images ≡ levels_of source
+pub levels_by : (source : Source) (stands : Stands) (images : List Image) → SaysBy source stands images → length images ≡ levels_of source
 levels_by (Memory levels) stands images says = ap length says.0
 levels_by (Files levels) stands images says = levels_said stands levels images says
 
--- these are the first entries of a level
-abbrev pub AreFirstOf : List Image → ℕ → List Entry → Type 0
-AreFirstOf images level entries = (k : ℕ) → k < length entries → IsEntryAt images level k (get_or entries k no_entry)
+-- each of these is the level's entry at its place
+abbrev pub EachIsAt : List Image → ℕ → List Entry → Type 0
+EachIsAt images level entries = (k : ℕ) → k < length entries → IsEntryAt images level k (get_or entries k no_entry)
 
 -- how far the counting has come
-pub record Tallied (source : Source) (stands : ℕ → Option (Option (List ℕ))) (level limit rank : ℕ) (run : Run) (tally : Tally) : Type 0 where
+pub record Tallied (source : Source) (stands : Stands) (level limit rank : ℕ) (run : Run) (tally : Tally) : Type 0 where
   pub entries : List Entry
   pub many : length entries ≡ rank
   pub counted : IsTallyOf limit entries tally
-  pub said : (images : List Image) → SaysBy source stands images → IsRunOf images level run × AreFirstOf images level entries
+  pub said : (images : List Image) → SaysBy source stands images → IsRunOf images level run × EachIsAt images level entries
 
-pushed : (images : List Image) (level : ℕ) (entries : List Entry) (e : Entry) → AreFirstOf images level entries → IsEntryAt images level (length entries) e → AreFirstOf images level (entries ++ e ∷ [])
+pushed : (images : List Image) (level : ℕ) (entries : List Entry) (e : Entry) → EachIsAt images level entries → IsEntryAt images level (length entries) e → EachIsAt images level (entries ++ e ∷ [])
 pushed images level entries e first here k lt = elim (cases_lt k (length entries)) [
   | inl less ↦ subst (IsEntryAt images level k) (sym (get_or_append_left entries (e ∷ []) no_entry k less)) (first k less)
   | inr ge ↦
@@ -80,7 +80,7 @@ pushed images level entries e first here k lt = elim (cases_lt k (length entries
       subst (IsEntryAt images level k) (sym (get_or_push entries e no_entry k same)) (subst (λ (n : ℕ). IsEntryAt images level n e) same here)
 ]
 
-pub tallied-more : (source : Source) (first now : ℕ → Option (Option (List ℕ))) (level limit rank : ℕ) (run after : Run) (tally next : Tally) (e : Entry) → Tallied source first level limit rank run tally
+pub tallied-more : (source : Source) (first now : Stands) (level limit rank : ℕ) (run after : Run) (tally next : Tally) (e : Entry) → Tallied source first level limit rank run tally
     → Same first now → ((images : List Image) → SaysBy source now images → IsRunOf images level run → IsEntryAt images level rank e)
     → ((images : List Image) → SaysBy source now images → IsRunOf images level run → IsRunOf images level after)
     → ((entries : List Entry) → IsTallyOf limit entries tally → IsTallyOf limit (entries ++ e ∷ []) next) → Tallied source first level limit (rank + 1) after next
@@ -108,7 +108,7 @@ named_sized level (Some bytes) image e same some =
     (ap (λ (m : Image). length m.entries) is ∙ length-map-range_with_len (entry_in bytes) 0 (size_of level), ap (λ (m : Image). m.level) is)
 
 -- a level that is there has as many entries as boards
-pub sized_by : (source : Source) (stands : ℕ → Option (Option (List ℕ))) (images : List Image) (level : ℕ) (image : Image) (e : Entry) → SaysBy source stands images → slice_get images level ≡ Some image
+pub sized_by : (source : Source) (stands : Stands) (images : List Image) (level : ℕ) (image : Image) (e : Entry) → SaysBy source stands images → slice_get images level ≡ Some image
     → slice_get image.entries 0 ≡ Some e → (length image.entries ≡ size_of level) × (image.level ≡ level)
 sized_by (Memory levels) stands images level image e says found some =
     let known : level < length images = slice_get_within images level image found in
@@ -123,7 +123,7 @@ entry_found : (images : List Image) (level k : ℕ) (image : Image) (e : Entry) 
 entry_found images level k image e found there = subst (λ (o : Option Image). IsSomeAnd o (λ m. slice_get m.entries k ≡ Some e)) found there
 
 -- all entries of a level are its entries
-whole : (source : Source) (stands : ℕ → Option (Option (List ℕ))) (images : List Image) (level : ℕ) (entries : List Entry) → SaysBy source stands images → AreFirstOf images level entries
+whole : (source : Source) (stands : Stands) (images : List Image) (level : ℕ) (entries : List Entry) → SaysBy source stands images → EachIsAt images level entries
     → length entries ≡ size_of level → 0 < length entries → AreEntriesOf images level entries
 whole source stands images level entries says first many some =
     let (image, found, read) = image_of (slice_get images level) (λ m. slice_get m.entries 0 ≡ Some (get_or entries 0 no_entry)) (first 0 some) in
@@ -132,7 +132,7 @@ whole source stands images level entries says first many some =
     (λ k lt. get_or_from_slice_get image.entries k (get_or entries k no_entry) no_entry (entry_found images level k image (get_or entries k no_entry) found (first k (omega (arith, lt, sized.0, many))))) in
     subst (λ (o : Option Image). IsSomeAnd o (λ m. (m.level ≡ level) × (m.entries ≡ entries))) (sym found) (sized.1, same)
 
-pub tallied-all : (source : Source) (stands : ℕ → Option (Option (List ℕ))) (level limit rank : ℕ) (run : Run) (tally : Tally) → Tallied source stands level limit rank run tally → rank ≡ size_of level → 0 < size_of level
+pub tallied-all : (source : Source) (stands : Stands) (level limit rank : ℕ) (run : Run) (tally : Tally) → Tallied source stands level limit rank run tally → rank ≡ size_of level → 0 < size_of level
     → IsTallied source stands level limit tally
 tallied-all source stands level limit rank run tally all is some = record {
   entries = all.entries;
@@ -142,9 +142,6 @@ tallied-all source stands level limit rank run tally all is some = record {
 }
 
 -- ---- why a level is not counted, where no name changed
-
-abbrev Stands : Type 0
-Stands = ℕ → Option (Option (List ℕ))
 
 tally_still : (source : Source) (old new : Stands) (level limit : ℕ) (fault : FolderFault) → Same old new → IsTallyFault source new level limit fault → IsTallyFault source old level limit fault
 tally_still source old new level limit fault same (inl is) = inl is

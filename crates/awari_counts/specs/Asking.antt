@@ -4,7 +4,7 @@ use Rattle.std.specs.Borrow.{Bor}
 use Rattle.awari_answers.specs.declared.asked.NoAnswer.{NoAnswer}
 use Rattle.awari_answers.specs.declared.asked.NoAnswer.TheVariants.{Column}
 use Rattle.awari_facts.specs.Sources.{limit_of}
-use Rattle.awari_folder.specs.Contents.{AreNames}
+use Rattle.awari_folder.specs.Contents.{AreNames, Stands}
 use Rattle.awari_folder.specs.declared.faults.FolderFault.{FolderFault}
 use Rattle.awari_members.specs.Forms.{form_of}
 use Rattle.awari_places.specs.Faults.{IsLimitFault, IsUnread}
@@ -42,7 +42,7 @@ IsRefused query other = ⊥
 
 -- Why the boards of a level are not printed by its file: as its limit is not read, as 83 with V7 if that is above the number of
 -- boards, or as they are not counted up to it.
-abbrev pub IsPairsFault : Wish → (ℕ → Option (Option (List ℕ))) → FolderFault → Type 0
+abbrev pub IsPairsFault : Wish → Stands → FolderFault → Type 0
 IsPairsFault wish stands fault = ((name : Option (List ℕ)) → stands wish.level ≡ Some name → IsLimitFault wish.level name fault)
     ⊎ ((limit : ℕ) × ((levels : ℕ) (images : List Image) → Says stands levels images → wish.level < levels → limit ≡ limit_of images wish.level)
     × (((fault ≡ wrong_limit wish.level) × (size_of wish.level < limit)) ⊎ IsCountFault (record { level = wish.level; pair = wish.pair; limit = limit }) stands fault))
@@ -53,6 +53,6 @@ IsHeldFault wish images fault = ((fault ≡ wrong_limit wish.level) × (size_of 
     ⊎ IsHeldCountFault images (record { level = wish.level; pair = wish.pair; limit = limit_of images wish.level }) fault
 
 -- The same by the levels up to this one, read into memory first.
-abbrev pub IsReadFault : Wish → (ℕ → Option (Option (List ℕ))) → FolderFault → Type 0
+abbrev pub IsReadFault : Wish → Stands → FolderFault → Type 0
 IsReadFault wish stands fault = ((names : ℕ → Option (List ℕ)) → AreNames stands names → IsUnread (wish.level + 1) names fault)
     ⊎ ((images : List Image) × ((said : List Image) → Says stands (wish.level + 1) said → images ≡ said) × IsHeldFault wish images fault)

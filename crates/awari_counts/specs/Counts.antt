@@ -3,6 +3,7 @@ use Rattle.std.specs.Prelude.{◌≡◌, ℕ, ◌+◌, ◌==◌, Bool, true, fal
 use Rattle.std.specs.Io.KnownBytes.{Appends}
 use Rattle.std.specs.List.{flat_map}
 use Rattle.std.specs.Ordering.{int_eq}
+use Rattle.awari_folder.specs.Contents.{Stands}
 use Rattle.awari_answers.specs.Asked.{AreLevelsTo}
 use Rattle.awari_answers.specs.LevelLines.{level_members}
 use Rattle.awari_answers.specs.declared.telling.LevelLine.{LevelLine}
@@ -73,7 +74,7 @@ count_lines form image = top_of form (told_of image) ++ (value_lines form image.
 
 -- Where it is known what the writer holds, what was written is a line for each of the right levels that the folder stores, or all
 -- lines of the one of this number; where it is known what the folder's names have. Each line is of this form.
-abbrev pub PrintsCounts : Form → (ℕ → Option (Option (List ℕ))) → Option ℕ → Option (List ℕ) → Option (List ℕ) → Type 0
+abbrev pub PrintsCounts : Form → Stands → Option ℕ → Option (List ℕ) → Option (List ℕ) → Type 0
 PrintsCounts form stands None before after = (images : List Image) × AreLevelsTo HIGHEST_LEVEL stands images × Appends before after (shown_levels form images)
 PrintsCounts form stands (Some number) before after = (images : List Image) × (image : Image) × HasLevel number stands images × (slice_get images number ≡ Some image)
     × Appends before after (count_lines form image)
@@ -84,11 +85,11 @@ AppendsCounts form None images before after = Appends before after (shown_levels
 AppendsCounts form (Some number) images before after = IsSomeAnd (slice_get images number) (λ image. Appends before after (count_lines form image))
 
 -- The same of what the files say, whether that is right or not; where it is known what the folder's names have.
-abbrev pub PrintsCountsSaid : Form → (ℕ → Option (Option (List ℕ))) → Option ℕ → Option (List ℕ) → Option (List ℕ) → Type 0
+abbrev pub PrintsCountsSaid : Form → Stands → Option ℕ → Option (List ℕ) → Option (List ℕ) → Type 0
 PrintsCountsSaid form stands None before after = AreSaid HIGHEST_LEVEL stands (λ images. AppendsCounts form None images before after)
 PrintsCountsSaid form stands (Some number) before after = IsSaidOf number stands (λ images. AppendsCounts form (Some number) images before after)
 
 -- The one or the other.
-abbrev pub PrintsCountsBy : Bool → Form → (ℕ → Option (Option (List ℕ))) → Option ℕ → Option (List ℕ) → Option (List ℕ) → Type 0
+abbrev pub PrintsCountsBy : Bool → Form → Stands → Option ℕ → Option (List ℕ) → Option (List ℕ) → Type 0
 PrintsCountsBy false = PrintsCounts
 PrintsCountsBy true = PrintsCountsSaid

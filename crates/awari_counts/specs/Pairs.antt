@@ -4,6 +4,7 @@ use Rattle.std.specs.Borrow.{Bor}
 use Rattle.std.specs.Io.KnownBytes.{Appends}
 use Rattle.std.specs.List.{flat_map, range_with_len}
 use Rattle.std.specs.Ordering.{int_eq}
+use Rattle.awari_folder.specs.Contents.{Stands}
 use Rattle.awari_facts.specs.Loads.{HasLevel}
 use Rattle.awari_facts.specs.Numbers.{number_in}
 use Rattle.awari_facts.specs.Sources.{IsSaidOf, limit_of}
@@ -56,7 +57,7 @@ pub record AppendsPairs (query : CountsQuery) (level : ℕ) (images : List Image
 
 -- Where it is known what the writer holds, that was written of the level that is asked for, by right levels: those up to it that
 -- the folder stores, where it is known what its names have.
-pub record PrintsPairs (stands : ℕ → Option (Option (List ℕ))) (query : CountsQuery) (before after : Option (List ℕ)) : Type 0 where
+pub record PrintsPairs (stands : Stands) (query : CountsQuery) (before after : Option (List ℕ)) : Type 0 where
   pub level : ℕ
   pub asked : query.level ≡ Some level
   pub images : List Image
@@ -64,12 +65,12 @@ pub record PrintsPairs (stands : ℕ → Option (Option (List ℕ))) (query : Co
   pub printed : AppendsPairs query level images before after
 
 -- The same of what the files say, whether that is right or not; where it is known what the folder's names have.
-pub record PrintsPairsSaid (stands : ℕ → Option (Option (List ℕ))) (query : CountsQuery) (before after : Option (List ℕ)) : Type 0 where
+pub record PrintsPairsSaid (stands : Stands) (query : CountsQuery) (before after : Option (List ℕ)) : Type 0 where
   pub level : ℕ
   pub asked : query.level ≡ Some level
   pub printed : IsSaidOf level stands (λ images. AppendsPairs query level images before after)
 
 -- The one or the other.
-abbrev pub PrintsPairsBy : Bool → (ℕ → Option (Option (List ℕ))) → CountsQuery → Option (List ℕ) → Option (List ℕ) → Type 0
+abbrev pub PrintsPairsBy : Bool → Stands → CountsQuery → Option (List ℕ) → Option (List ℕ) → Type 0
 PrintsPairsBy false = PrintsPairs
 PrintsPairsBy true = PrintsPairsSaid

@@ -1,5 +1,6 @@
 -- A table of numbers of boards, row by row. Private functions alone go by this: no public contract does.
 use Rattle.std.specs.Prelude.{◌≡◌, ◌⊎◌, Bool, true, false, ℕ, ◌+◌, ◌*◌, ◌<◌, ◌≤◌, List, count_by, length, slice_get, slice_index, slice_index_or, take, ℤ, Option, Some, None}
+use Rattle.awari_folder.specs.Contents.{Stands}
 use Rattle.awari_facts.specs.Numbers.{is_own, number_in}
 use Rattle.awari_folder.specs.declared.faults.FolderFault.{FolderFault}
 use Rattle.awari_folder.specs.declared.faults.FolderFault.TheVariants.{Memory, Verify}
@@ -73,7 +74,7 @@ IsHeldCountFault images table fault = (fault ≡ Memory) ⊎ ((fault ≡ wrong_l
 
 -- Why the boards of a level are not counted by its file: 84, or as the entry of some rank is refused, or 83 with V7 if a board has no
 -- cell.
-abbrev pub IsCountFault : CellTable → (ℕ → Option (Option (List ℕ))) → FolderFault → Type 0
+abbrev pub IsCountFault : CellTable → Stands → FolderFault → Type 0
 IsCountFault table stands fault = (fault ≡ Memory) ⊎ (IsFaultFrom table.level 0 (stands table.level) fault
     ⊎ ((fault ≡ wrong_limit table.level) × ((levels : ℕ) (images : List Image) → Says stands levels images → table.level < levels → HasNoCell images table)))
 

@@ -1,6 +1,7 @@
 -- Numbers of boards by sign, by value and by distance. Private functions alone go by these: no public contract does.
 use Rattle.std.specs.Prelude.{◌≡◌, ℕ, ◌+◌, ◌==◌, ◌<◌, ◌⊎◌, Bool, List, length, count_by, slice_get, slice_index, Option, IfSome, IsSomeAnd}
 use Rattle.std.specs.Ordering.{int_eq}
+use Rattle.awari_folder.specs.Contents.{Stands}
 use Rattle.awari_folder.specs.declared.faults.FolderFault.{FolderFault}
 use Rattle.awari_folder.specs.declared.faults.FolderFault.TheVariants as folder
 use Rattle.awari_places.specs.Runs.{IsEntryAt}
@@ -40,7 +41,7 @@ abbrev pub AreEntriesOf : List Image → ℕ → List Entry → Type 0
 AreEntriesOf images level entries = IsSomeAnd (slice_get images level) (λ image. (image.level ≡ level) × (image.entries ≡ entries))
 
 -- this many entries are counted, and those are the level's, by the shelf or by the files
-pub record IsTallied (source : Source) (stands : ℕ → Option (Option (List ℕ))) (level limit : ℕ) (tally : Tally) : Type 0 where
+pub record IsTallied (source : Source) (stands : Stands) (level limit : ℕ) (tally : Tally) : Type 0 where
   pub entries : List Entry
   pub many : length entries ≡ size_of level
   pub counted : IsTallyOf limit entries tally
@@ -53,17 +54,17 @@ IsWrongLimit images level limit = ((rank : ℕ) × (e : Entry) × IsEntryAt imag
 
 -- Why a level is not counted up to a limit: 84, or as the entry of some rank is refused, or 83 with V7 if the limit is above the
 -- number of boards or is not the greatest distance.
-abbrev pub IsTallyFault : Source → (ℕ → Option (Option (List ℕ))) → ℕ → ℕ → FolderFault → Type 0
+abbrev pub IsTallyFault : Source → Stands → ℕ → ℕ → FolderFault → Type 0
 IsTallyFault source stands level limit fault = (fault ≡ folder.Memory) ⊎ (IsUnreadFrom source level 0 (stands level) fault
     ⊎ ((fault ≡ wrong_limit level) × ((size_of level < limit) ⊎ ((images : List Image) → SaysBy source stands images → IsWrongLimit images level limit))))
 
 -- Why a level is not told in numbers: as its limit is not read, or as it is not counted up to that.
-abbrev pub IsNumbersFault : Source → (ℕ → Option (Option (List ℕ))) → ℕ → FolderFault → Type 0
+abbrev pub IsNumbersFault : Source → Stands → ℕ → FolderFault → Type 0
 IsNumbersFault source stands level fault = IsLimitUnread source level (stands level) fault
     ⊎ ((limit : ℕ) × ((images : List Image) → SaysBy source stands images → limit ≡ limit_of images level) × IsTallyFault source stands level limit fault)
 
 -- one of the levels that are asked for is not
-pub record IsCountsFault (source : Source) (stands : ℕ → Option (Option (List ℕ))) (asked : Option ℕ) (fault : FolderFault) : Type 0 where
+pub record IsCountsFault (source : Source) (stands : Stands) (asked : Option ℕ) (fault : FolderFault) : Type 0 where
   pub level : ℕ
   pub known : level < levels_of source
   pub is_asked : IfSome asked (λ number. level ≡ number)

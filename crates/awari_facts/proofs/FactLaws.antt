@@ -4,7 +4,7 @@ use Rattle.std.proofs.lemmas.Bool.{false≢true}
 use Rattle.std.proofs.lemmas.List.Sums.{fold-append, sum_by-append}
 use Rattle.std.specs.List.{range_with_len}
 use Rattle.awari_board.proofs.Falling.{range-more}
-use Rattle.awari_board.proofs.Legal.{legal_is}
+use Rattle.awari_board.proofs.Legal.{legal_is, not_legal}
 use Rattle.awari_board.specs.Rules.{IsBoard, IsLegal, IsMove, captured, next_board}
 use Rattle.awari_board.specs.Tests.{is_legal}
 use Rattle.awari_rank.proofs.Ranking.{listed_board}
@@ -29,13 +29,6 @@ count-next p n count next b before is more =
     more ∙ ap (λ b. count + cond b 1 0) is ∙ ap (λ c. c + cond (p n) 1 0) before ∙ sym (count-more p n)
 
 -- ---- a pit
-
-pub not_legal : (board : List ℕ) (x : ℕ) → (IsLegal board x → ⊥) → is_legal board x ≡ false
-not_legal board x none = go (is_legal board x) refl
-  where
-    go : (b : Bool) → is_legal board x ≡ b → b ≡ false
-    go true e = absurd (none ((legal_is board x).0 e))
-    go false e = refl
 
 pub legal-test : (board : List ℕ) (x : ℕ) (b : Bool) → (b ≡ true) ↔ IsLegal board x → b ≡ is_legal board x
 legal-test board x true test = sym ((legal_is board x).1 (test.0 refl))

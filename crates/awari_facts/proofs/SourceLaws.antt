@@ -3,7 +3,7 @@ use Rattle.std.proofs.Common.{get_or, ◌≡◌, ℕ, List, slice_get, sum, Opti
 use Rattle.std.proofs.lemmas.List.{length-take-le}
 use Rattle.std.specs.Prelude.{IfErr, IsSomeAnd}
 use Rattle.std.proofs.lemmas.Option.{get_or_from_slice_get}
-use Rattle.awari_folder.specs.Contents.{Same}
+use Rattle.awari_folder.specs.Contents.{Same, Stands}
 use Rattle.awari_folder.specs.declared.faults.FolderFault.{FolderFault}
 use Rattle.awari_places.proofs.Reading.{still_says}
 use Rattle.awari_places.proofs.Running.{fault_before}
@@ -21,12 +21,12 @@ use Rattle.awari_facts.specs.declared.sources.Source.{Source}
 use Rattle.awari_facts.specs.declared.sources.Source.TheVariants.{Memory, Files}
 
 -- what is said where no name changed
-pub says_still : (source : Source) (old new : ℕ → Option (Option (List ℕ))) (images : List Image) → Same old new → SaysBy source old images → SaysBy source new images
+pub says_still : (source : Source) (old new : Stands) (images : List Image) → Same old new → SaysBy source old images → SaysBy source new images
 says_still (Memory levels) old new images same says = says
 says_still (Files levels) old new images same says = still_says old new levels images same says
 
 -- why an entry is not read, where no name changed
-pub unread_before : (source : Source) (level rank : ℕ) (old new : ℕ → Option (Option (List ℕ))) (fault : FolderFault) → Same old new → IsUnreadFrom source level rank (new level) fault → IsUnreadFrom source level 0 (old level) fault
+pub unread_before : (source : Source) (level rank : ℕ) (old new : Stands) (fault : FolderFault) → Same old new → IsUnreadFrom source level rank (new level) fault → IsUnreadFrom source level 0 (old level) fault
 unread_before (Memory levels) level rank old new fault same is = is
 unread_before (Files levels) level rank old new fault same is = fault_before level rank 0 old new fault same (omega arith) is
 

@@ -1,5 +1,6 @@
 -- The levels in a folder, up to one that is there.
-use Rattle.std.specs.Prelude.{◌≡◌, ℕ, ◌<◌, ◌≤◌, List, length, min, Option}
+use Rattle.std.specs.Prelude.{◌≡◌, ℕ, ◌<◌, ◌≤◌, List, length, min}
+use Rattle.awari_folder.specs.Contents.{Stands}
 use Rattle.awari_answers.specs.Asked.{AreLevelsTo}
 use Rattle.awari_answers.specs.declared.asked.NoAnswer.{NoAnswer}
 use Rattle.awari_answers.specs.declared.asked.NoAnswer.TheVariants.{Folder, NotYet}
@@ -8,12 +9,12 @@ use Rattle.awari_table.specs.declared.TheConstants.{HIGHEST_LEVEL}
 use Rattle.awari_table.specs.declared.images.Image.{Image}
 
 -- right levels: those up to this one that the folder stores, where it is known what its names have; and this one is among them
-pub record HasLevel (level : ℕ) (stands : ℕ → Option (Option (List ℕ))) (images : List Image) : Type 0 where
+pub record HasLevel (level : ℕ) (stands : Stands) (images : List Image) : Type 0 where
   pub levels : AreLevelsTo (min level HIGHEST_LEVEL) stands images
   pub known : level < length images
 
 -- how many right levels the folder stores up to this one
-abbrev pub CountsLoaded : ℕ → (ℕ → Option (Option (List ℕ))) → ℕ → Type 0
+abbrev pub CountsLoaded : ℕ → Stands → ℕ → Type 0
 CountsLoaded level stands n = (images : List Image) × AreLevelsTo (min level HIGHEST_LEVEL) stands images × (n ≡ length images)
 
 -- the folder is refused, with a fault that is due

@@ -20,14 +20,14 @@ of_tables n =
     if n == 5 then says (codes "EmptyPit") (codes "The pit is empty") else
     if n == 6 then says (codes "MustFeed") (codes "The opponent has no stones, and the pit would give none while another does") else
     if n == 7 then says (codes "Ended") (codes "The play has ended") else
-    if n == 10 then says (codes "Line") (codes "The line has not the form that is due there") else
+    if n == 10 then says (codes "Line") (codes "The line does not have the form that is expected there") else
     if n == 11 then says (codes "Order") (codes "The line is the header of another level than the next one") else
     if n == 12 then says (codes "High") (codes "The line is the header of a level above 24, the highest") else
     if n == 13 then says (codes "Short") (codes "The text ends inside a level, or its last line has no line feed") else
     if n == 14 then says (codes "Read") (codes "The input can't be read") else
     if n == 15 then says (codes "Memory") (codes "There is not enough memory for the input or for a level") else
     if n == 20 then says (codes "WrongLevel") (codes "The level is not the next one") else
-    if n == 21 then says (codes "WrongSize") (codes "The level has not an entry for each board") else
+    if n == 21 then says (codes "WrongSize") (codes "The level does not have one entry for each board") else
     if n == 22 then says (codes "Refused") (codes "The entry of a board breaks a rule") else
     if n == 23 then says (codes "Memory") (codes "There is not enough memory to verify a level") else
     says [] (codes "No answer has this number")
@@ -63,16 +63,16 @@ of_builds n =
 abbrev pub of_files : ℕ → Meant
 of_files n =
     if n == 60 then says (codes "Truncated") (codes "The file is cut off") else
-    if n == 61 then says (codes "Magic") (codes "The file is no file of a level: it does not begin with AWDB") else
+    if n == 61 then says (codes "Magic") (codes "The file is not a level's file: it does not begin with AWDB") else
     if n == 62 then says (codes "Version") (codes "The file has an unknown version; known are 1 and 2") else
-    if n == 63 then says (codes "LevelOutOfRange") (codes "The file says that it is of a level that its version has not") else
-    if n == 64 then says (codes "Count") (codes "The file counts other boards than its level has") else
+    if n == 63 then says (codes "LevelOutOfRange") (codes "The file names a level that its version does not have") else
+    if n == 64 then says (codes "Count") (codes "The file's count of boards is not that of its level") else
     if n == 65 then says (codes "EntryForm") (codes "The file has a plan that is no pit") else
     if n == 66 then says (codes "Digest") (codes "The digest is wrong: the file is damaged") else
     if n == 67 then says (codes "Trailing") (codes "The file is too long") else
     if n == 68 then says (codes "Read") (codes "The file can't be read") else
     if n == 69 then says (codes "Memory") (codes "There is not enough memory for the entries of the file") else
-    if n == 70 then says (codes "Write") (codes "The file can't be written, or not be brought to the disk") else
+    if n == 70 then says (codes "Write") (codes "The file can't be written, or can't be brought to the disk") else
     if n == 71 then says (codes "NotNext") (codes "The level that is published is not the next one") else
     if n == 72 then says (codes "Readers") (codes "There is no place for so many readers") else
     if n == 73 then says (codes "Memory") (codes "There is not enough memory for the levels and their readers") else
@@ -86,12 +86,12 @@ of_files n =
     if n == 85 then says (codes "Occupied") (codes "A file of this level is there already, and stays as it is") else
     if n == 86 then says (codes "Old") (codes "The file is of version 1, whose distances need not be the least") else
     if n == 90 then says (codes "Read") (codes "The lines of the service can't be read") else
-    if n == 91 then says (codes "TooLong") (codes "The lines of the service have more than 100,000,000 bytes") else
+    if n == 91 then says (codes "TooLong") (codes "The lines for the service have more than 100,000,000 bytes in all") else
     if n == 92 then says (codes "Write") (codes "The answers of the service can't be written") else
     if n == 93 then says (codes "NoRank") (codes "The level has fewer boards") else
     if n == 94 then says (codes "Overflow") (codes "There are 2^64 plays or more, which are not counted") else
     if n == 95 then says (codes "Span") (codes "A span is A..B, A.., ..B or A, the lower end first, of numbers of at most 64 bits") else
-    if n == 96 then says (codes "Column") (codes "Boards are not sorted or counted by that") else
+    if n == 96 then says (codes "Column") (codes "Boards can't be sorted or counted by that") else
     says [] (codes "No answer has this number")
 
 abbrev pub meant_by : ℕ → Meant

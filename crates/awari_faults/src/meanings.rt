@@ -87,7 +87,10 @@ fn of_tables(number: u8) -> Meaning
             b"The opponent has no stones, and the pit would give none while another does\0",
         ),
         7 => row("Ended", b"The play has ended\0"),
-        10 => row("Line", b"The line has not the form that is due there\0"),
+        10 => row(
+            "Line",
+            b"The line does not have the form that is expected there\0",
+        ),
         11 => row(
             "Order",
             b"The line is the header of another level than the next one\0",
@@ -106,7 +109,10 @@ fn of_tables(number: u8) -> Meaning
             b"There is not enough memory for the input or for a level\0",
         ),
         20 => row("WrongLevel", b"The level is not the next one\0"),
-        21 => row("WrongSize", b"The level has not an entry for each board\0"),
+        21 => row(
+            "WrongSize",
+            b"The level does not have one entry for each board\0",
+        ),
         22 => row("Refused", b"The entry of a board breaks a rule\0"),
         23 => row("Memory", b"There is not enough memory to verify a level\0"),
         _ => row("", b"No answer has this number\0"),
@@ -170,7 +176,7 @@ fn of_files(number: u8) -> Meaning
         60 => row("Truncated", b"The file is cut off\0"),
         61 => row(
             "Magic",
-            b"The file is no file of a level: it does not begin with AWDB\0",
+            b"The file is not a level's file: it does not begin with AWDB\0",
         ),
         62 => row(
             "Version",
@@ -178,11 +184,11 @@ fn of_files(number: u8) -> Meaning
         ),
         63 => row(
             "LevelOutOfRange",
-            b"The file says that it is of a level that its version has not\0",
+            b"The file names a level that its version does not have\0",
         ),
         64 => row(
             "Count",
-            b"The file counts other boards than its level has\0",
+            b"The file's count of boards is not that of its level\0",
         ),
         65 => row("EntryForm", b"The file has a plan that is no pit\0"),
         66 => row("Digest", b"The digest is wrong: the file is damaged\0"),
@@ -194,7 +200,7 @@ fn of_files(number: u8) -> Meaning
         ),
         70 => row(
             "Write",
-            b"The file can't be written, or not be brought to the disk\0",
+            b"The file can't be written, or can't be brought to the disk\0",
         ),
         71 => row(
             "NotNext",
@@ -226,7 +232,7 @@ fn of_files(number: u8) -> Meaning
         90 => row("Read", b"The lines of the service can't be read\0"),
         91 => row(
             "TooLong",
-            b"The lines of the service have more than 100,000,000 bytes\0",
+            b"The lines for the service have more than 100,000,000 bytes in all\0",
         ),
         92 => row("Write", b"The answers of the service can't be written\0"),
         93 => row("NoRank", b"The level has fewer boards\0"),
@@ -238,7 +244,7 @@ fn of_files(number: u8) -> Meaning
             "Span",
             b"A span is A..B, A.., ..B or A, the lower end first, of numbers of at most 64 bits\0",
         ),
-        96 => row("Column", b"Boards are not sorted or counted by that\0"),
+        96 => row("Column", b"Boards can't be sorted or counted by that\0"),
         _ => row("", b"No answer has this number\0"),
     }
 }

@@ -11,7 +11,7 @@ use Rattle.awari_table.specs.Shelves.{Consistent}
 use Rattle.awari_file.specs.FileText.{HasFile, body_text, file_text, found_of}
 use Rattle.awari_file.proofs.WholeSpell.{told_apart}
 use Rattle.awari_folder.specs.NextFile.{IsNextFile}
-use Rattle.awari_folder.specs.Contents.{Same, SameBut, Becomes, AreNames, HoldLevels, HoldsIn, IsStored}
+use Rattle.awari_folder.specs.Contents.{Same, SameBut, Becomes, AreNames, HoldLevels, HoldsIn, IsStored, Stands}
 use Rattle.awari_folder.specs.State.{IsOwnDigest, Saves, State, Unchanged}
 
 none_is_some : {A : Type 0} (name : Option (List ℕ)) (bytes : List ℕ) → name ≡ None → name ≡ Some bytes → A
@@ -53,7 +53,7 @@ with_own names level bytes = rw (eq-eqb level level refl) refl
 with_other : (names : ℕ → Option (List ℕ)) (level : ℕ) (bytes : List ℕ) (n : ℕ) → n ≢ level → with_name names level bytes n ≡ names n
 with_other names level bytes n other = let differs : eqb n level ≡ false = false_from_ne_true _ (λ e. other (eqb-true _ _ e)) in rw differs refl
 
-named_now : (old new : ℕ → Option (Option (List ℕ))) (names : ℕ → Option (List ℕ)) (level : ℕ) (bytes : List ℕ) → AreNames old names → SameBut level old new
+named_now : (old new : Stands) (names : ℕ → Option (List ℕ)) (level : ℕ) (bytes : List ℕ) → AreNames old names → SameBut level old new
     → new level ≡ Some (Some bytes) → AreNames new (with_name names level bytes)
 named_now old new names level bytes are others own n =
     ⊎_elim (λ same. ap new same.1 ∙ own ∙ ap Some (sym (ap (with_name names level bytes) same.1 ∙ with_own names level bytes)))
@@ -64,7 +64,7 @@ becomes_own : (old new : Option (Option (List ℕ))) (name : Option (List ℕ)) 
 becomes_own old new name bytes is becomes = subst (λ o. Becomes o new (Some bytes)) is becomes
 
 -- A folder that holds a shelf holds it with a level on top, once the level has its file.
-pub holds_more : (old new : ℕ → Option (Option (List ℕ))) (shelf : List Image) (below : List ℕ) (image : Image) (digest : List ℕ) → HoldsIn old shelf below → Consistent shelf image
+pub holds_more : (old new : Stands) (shelf : List Image) (below : List ℕ) (image : Image) (digest : List ℕ) → HoldsIn old shelf below → Consistent shelf image
     → HasFile 2 image below → SameBut image.level old new → new image.level ≡ Some (Some (file_text 2 image below)) → digest ≡ sha256 (body_text 2 image below)
     → HoldsIn new (shelf ++ image ∷ []) digest
 holds_more old new shelf below image digest (names, are, held) right has others own ends =

@@ -10,6 +10,10 @@ use Rattle.awari_folder.specs.declared.faults.FolderFault.{FolderFault}
 use Rattle.awari_folder.specs.declared.faults.FolderFault.TheVariants.{Open, Memory}
 use Rattle.awari_folder.specs.NextFile.{IsNextFile, IsFileFault}
 
+-- What has the name of each level's file, if that is known: a file of these bytes, or none.
+abbrev pub Stands : Type 0
+Stands = ℕ → Option (Option (List ℕ))
+
 -- Each name has what it had.
 abbrev pub Same : {A : Type 0} → (ℕ → A) → (ℕ → A) → Type 0
 Same old new = (n : ℕ) → new n ≡ old n
@@ -19,7 +23,7 @@ abbrev pub SameBut : {A : Type 0} → ℕ → (ℕ → A) → (ℕ → A) → Ty
 SameBut level old new = (n : ℕ) → n ≢ level → new n ≡ old n
 
 -- Each name that had a file has that file.
-abbrev pub KeepsFiles : (ℕ → Option (Option (List ℕ))) → (ℕ → Option (Option (List ℕ))) → Type 0
+abbrev pub KeepsFiles : Stands → Stands → Type 0
 KeepsFiles old new = (n : ℕ) (bytes : List ℕ) → old n ≡ Some (Some bytes) → new n ≡ Some (Some bytes)
 
 -- What holds of levels holds of them still.
@@ -111,7 +115,7 @@ IsOfFile (Open level) = ⊥
 IsOfFile fault = ⊤
 
 -- these have the names
-abbrev pub AreNames : (ℕ → Option (Option (List ℕ))) → (ℕ → Option (List ℕ)) → Type 0
+abbrev pub AreNames : Stands → (ℕ → Option (List ℕ)) → Type 0
 AreNames stands names = (n : ℕ) → stands n ≡ Some (names n)
 
 -- The first n levels' files are there and right, each over the one below it: this shelf, and the last one's digest.
@@ -135,15 +139,15 @@ abbrev pub IsStored : (ℕ → Option (List ℕ)) → List Image → List ℕ �
 IsStored names shelf digest = IsStoredTo HIGHEST_LEVEL names shelf digest
 
 -- Where it is known what has the names: that is the shelf stored under them.
-abbrev pub IsStoredIn : (ℕ → Option (Option (List ℕ))) → List Image → List ℕ → Type 0
+abbrev pub IsStoredIn : Stands → List Image → List ℕ → Type 0
 IsStoredIn stands shelf digest = (names : ℕ → Option (List ℕ)) → AreNames stands names → IsStored names shelf digest
 
 -- and that of its levels up to this one
-abbrev pub IsStoredToIn : ℕ → (ℕ → Option (Option (List ℕ))) → List Image → List ℕ → Type 0
+abbrev pub IsStoredToIn : ℕ → Stands → List Image → List ℕ → Type 0
 IsStoredToIn most stands shelf digest = (names : ℕ → Option (List ℕ)) → AreNames stands names → IsStoredTo most names shelf digest
 
 -- where it is known what has the names: the files of this shelf
-abbrev pub HoldsIn : (ℕ → Option (Option (List ℕ))) → List Image → List ℕ → Type 0
+abbrev pub HoldsIn : Stands → List Image → List ℕ → Type 0
 HoldsIn stands shelf digest = (names : ℕ → Option (List ℕ)) × AreNames stands names × Holds names shelf digest
 
 -- of no name anything is known

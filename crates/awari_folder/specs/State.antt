@@ -6,13 +6,13 @@ use Rattle.awari_table.specs.Shelves.{Consistent}
 use Rattle.awari_table.specs.declared.images.Image.{Image}
 use Rattle.awari_file.specs.FileText.{HasFile, body_text, file_text}
 use Rattle.awari_folder.specs.declared.faults.FolderFault.{FolderFault}
-use Rattle.awari_folder.specs.Contents.{Same, SameBut, Stays, StaysBut, Becomes, LeavesNoMore, LeavesToo, LeavesStill, OpenIfRefused, Refusals, HoldsIn, TellsRefusal}
+use Rattle.awari_folder.specs.Contents.{Same, SameBut, Stays, StaysBut, Becomes, LeavesNoMore, LeavesToo, LeavesStill, OpenIfRefused, Refusals, HoldsIn, TellsRefusal, Stands}
 
 -- What has the name of a level's file, if that is known: a file of these bytes, or none. What a crash at this moment may leave
 -- under that name. Whether nothing of a draft of this level lies there. Which calls were refused so far, not counting those to
 -- remove a draft; and how many of those came to nothing.
 pub record State : Type 1 where
-  pub stands : ℕ → Option (Option (List ℕ))
+  pub stands : Stands
   pub may_leave : ℕ → Option (List ℕ) → Type 0
   pub is_clear : ℕ → Type 0
   pub refusals : Refusals

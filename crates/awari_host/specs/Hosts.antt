@@ -1,12 +1,8 @@
 -- What is known of the folders on a host, by their names.
-use Rattle.std.specs.Prelude.{◌≡◌, ◌≢◌, ⊤, ℕ, List, Option}
-use Rattle.awari_folder.specs.Contents.{Same}
+use Rattle.std.specs.Prelude.{◌≡◌, ◌≢◌, ⊤, ℕ, List}
+use Rattle.awari_folder.specs.Contents.{Same, Stands}
 use Rattle.awari_folder.specs.declared.faults.FolderFault.{FolderFault}
 use Rattle.awari_folder.specs.declared.faults.FolderFault.TheVariants.{Open, Memory}
-
--- what the names of levels have in a folder, if that is known
-abbrev pub Stands : Type 0
-Stands = ℕ → Option (Option (List ℕ))
 
 -- it is 82 or 84
 abbrev pub IsLockFault : FolderFault → Type 0

@@ -1,6 +1,7 @@
 //! What a host is asked for: the folders that the words name.
 
 ghost use Rattle.std.specs.Prelude.{◌≡◌, ℕ, List, Option, IfErr};
+ghost use Rattle.awari_folder.specs.Contents.{Stands};
 ghost use Rattle.awari_host.specs.Hosts.{IsLockFault, OthersStay};
 
 use awari_folder::{Folder, FolderFault};
@@ -32,7 +33,7 @@ pub trait Host<'a> {
     type Folder: Folder + Drop;
 
     /// What the names of levels have in the folder of a name, if that is known.
-    ghost holds: { Self → List ℕ → ℕ → Option (Option (List ℕ)) };
+    ghost holds: { Self → List ℕ → Stands };
 
     /// The names of the folders that have what was written into them once they are closed.
     ghost keeps: { List ℕ → Type 0 };

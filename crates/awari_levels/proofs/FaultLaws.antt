@@ -4,15 +4,12 @@ use Rattle.awari_facts.proofs.SourceLaws.{unread_before}
 use Rattle.awari_facts.specs.Sources.{IsUnreadAt, IsUnreadFrom}
 use Rattle.awari_facts.specs.declared.sources.Source.{Source}
 use Rattle.awari_facts.specs.declared.sources.Source.TheVariants.{Memory, Files}
-use Rattle.awari_folder.specs.Contents.{Same}
+use Rattle.awari_folder.specs.Contents.{Same, Stands}
 use Rattle.awari_folder.specs.declared.faults.FolderFault.{FolderFault}
 use Rattle.awari_facts.proofs.RankLaws.{rank-inside}
 use Rattle.awari_levels.specs.Listing.{IsListFault}
 use Rattle.awari_places.specs.Faults.{IsEntryFault, IsFaultFrom}
 use Rattle.awari_rank.specs.Rank.{rank_of}
-
-abbrev Stands : Type 0
-Stands = ℕ → Option (Option (List ℕ))
 
 pub list_entry : (source : Source) (level rank : ℕ) (old new : Stands) (fault : FolderFault) → Same old new → IsUnreadFrom source level rank (new level) fault → IsListFault source level old fault
 list_entry source level rank old new fault same is = inr (unread_before source level rank old new fault same is)

@@ -3,7 +3,7 @@ use Rattle.std.proofs.Common.{◌≡◌, ℕ, zero, suc, ◌+◌, ◌-◌, ◌<�
 use Rattle.std.proofs.lemmas.List.{length-append, take-append-drop, take-append-le, take_all}
 use Rattle.std.proofs.lemmas.List.Elements.{filter-append}
 use Rattle.core.specs.Option.{is_some}
-use Rattle.awari_queries.proofs.Sampling.{left-push, taken-push}
+use Rattle.awari_queries.proofs.Sampling.{left-none, left-push, taken-push}
 use Rattle.awari_queries.specs.Draws.{drawn, drawn_on, is_drawn, is_taken, left_after, sample, taken}
 use Rattle.awari_queries.specs.Holding.{first}
 use Rattle.awari_queries.specs.declared.draws.Draw.{Draw}
@@ -111,10 +111,6 @@ each-append {A} k before (x ∷ xs) ys =
         → cond b (x ∷ each k (before + 1) (xs ++ ys)) (each k (before + 1) (xs ++ ys)) ≡ cond b (x ∷ each k (before + 1) xs) (each k (before + 1) xs) ++ each k (before + length (x ∷ xs)) ys
     go true rest = ap (λ t. x ∷ t) rest
     go false rest = rest
-
-left-none : {A : Type 0} (xs : List A) → left_after None xs ≡ None
-left-none [] = refl
-left-none (x ∷ xs) = left-none xs
 
 taken-append : {A : Type 0} (d : Option Draw) (xs ys : List A) → taken d (xs ++ ys) ≡ taken d xs ++ taken (left_after d xs) ys
 taken-append None xs ys = ap (λ l. xs ++ taken l ys) (sym (left-none xs))

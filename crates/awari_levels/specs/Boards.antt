@@ -3,6 +3,7 @@ use Rattle.std.specs.Prelude.{◌≡◌, ℕ, max, Bool, true, false, if◌then�
 use Rattle.std.specs.Fmt.{decimal}
 use Rattle.std.specs.Io.KnownBytes.{Appends}
 use Rattle.std.specs.List.{flat_map, range_with_len}
+use Rattle.awari_folder.specs.Contents.{Stands}
 use Rattle.awari_answers.specs.Asked.{AreLevelsTo}
 use Rattle.awari_answers.specs.declared.asked.NoAnswer.{NoAnswer}
 use Rattle.awari_answers.specs.declared.asked.NoAnswer.TheVariants.{Span, Column}
@@ -59,18 +60,18 @@ AppendsWanted images level wanted before after = Appends before after (wanted_te
 
 -- Where it is known what the writer holds, that was written of the boards that the query asks for, by right levels: those up to
 -- the query's that the folder stores, where it is known what its names have.
-abbrev pub PrintsBoards : (ℕ → Option (Option (List ℕ))) → BoardsQuery → Option (List ℕ) → Option (List ℕ) → Type 0
+abbrev pub PrintsBoards : Stands → BoardsQuery → Option (List ℕ) → Option (List ℕ) → Type 0
 PrintsBoards stands query before after = (images : List Image) × (wanted : Wanted) × HasLevel query.level stands images × IsWanted query wanted
     × AppendsWanted images query.level wanted before after
 
 -- Where it is known what has the names, and what the writer holds, that was written of the boards that the query asks for, by what
 -- the files say, whether that is right or not.
-abbrev pub PrintsBoardsSaid : (ℕ → Option (Option (List ℕ))) → BoardsQuery → Option (List ℕ) → Option (List ℕ) → Type 0
+abbrev pub PrintsBoardsSaid : Stands → BoardsQuery → Option (List ℕ) → Option (List ℕ) → Type 0
 PrintsBoardsSaid stands query before after = (wanted : Wanted) × IsWanted query wanted
     × IsSaidOf query.level stands (λ images. AppendsWanted images query.level wanted before after)
 
 -- The one or the other.
-abbrev pub PrintsBoardsBy : Bool → (ℕ → Option (Option (List ℕ))) → BoardsQuery → Option (List ℕ) → Option (List ℕ) → Type 0
+abbrev pub PrintsBoardsBy : Bool → Stands → BoardsQuery → Option (List ℕ) → Option (List ℕ) → Type 0
 PrintsBoardsBy false = PrintsBoards
 PrintsBoardsBy true = PrintsBoardsSaid
 
@@ -85,6 +86,6 @@ all_lines images = flat_map (level_lines images) (range_with_len 0 (length image
 
 -- Where it is known what the writer holds, what was written are the lines of all boards of right levels, or of the one of this
 -- number. The levels are those that the folder stores, where it is known what its names have.
-abbrev pub PrintsAllBoards : (ℕ → Option (Option (List ℕ))) → Option ℕ → Option (List ℕ) → Option (List ℕ) → Type 0
+abbrev pub PrintsAllBoards : Stands → Option ℕ → Option (List ℕ) → Option (List ℕ) → Type 0
 PrintsAllBoards stands None before after = (images : List Image) × AreLevelsTo HIGHEST_LEVEL stands images × Appends before after (all_lines images)
 PrintsAllBoards stands (Some level) before after = (images : List Image) × HasLevel level stands images × Appends before after (level_lines images level)

@@ -3,6 +3,7 @@ use Rattle.std.specs.Prelude.{◌≡◌, ◌⊎◌, ℕ, ◌+◌, ◌%◌, ◌==
 use Rattle.core.specs.Option.{is_some}
 use Rattle.std.specs.Io.KnownBytes.{Appends}
 use Rattle.std.specs.List.{flat_map}
+use Rattle.awari_folder.specs.Contents.{Stands}
 use Rattle.awari_board.specs.Rules.{own_stones}
 use Rattle.awari_facts.specs.Facts.{captures_by, gains_in, keeping_moves, greediest, largest_capture, legal_moves, lost_by, moves_gaining, waits}
 use Rattle.awari_facts.specs.Numbers.{is_own, number_in}
@@ -74,7 +75,7 @@ abbrev pub AppendsLines : Wanted → List Image → List (List ℕ) → Option (
 AppendsLines wanted images boards before after = Appends before after (header_of wanted ++ board_lines wanted images boards)
 
 -- Why boards of a level are not listed: 84, or as the entry of some rank is not read.
-abbrev pub IsListFault : Source → ℕ → (ℕ → Option (Option (List ℕ))) → FolderFault → Type 0
+abbrev pub IsListFault : Source → ℕ → Stands → FolderFault → Type 0
 IsListFault source level stands fault = (fault ≡ Memory) ⊎ IsUnreadFrom source level 0 (stands level) fault
 
 -- value, distance and plan are in the spans that are asked for

@@ -1,6 +1,7 @@
 //! The boards of a level that are wanted, counted or printed.
 
 ghost use Rattle.std.specs.Prelude.{◌≡◌, ◌<◌, ◌-◌, ◌↔◌, ℕ, true, if◌then◌else◌, max, List, Option, length, All, IfErr, IfOk, None, Ok, Some};
+ghost use Rattle.awari_folder.specs.Contents.{Stands};
 ghost use Rattle.awari_places.specs.Places.{IsLevelOf};
 ghost use Rattle.awari_facts.specs.Facts.{keeping_moves};
 ghost use Rattle.awari_facts.specs.Numbers.{IsAt};
@@ -130,7 +131,7 @@ fn choose<'a, R: Threads + Sync, F: Folder>(
 /// many boards.
 fn keeping(asked: Asked<'_>, seen: &Seen) -> Option<u8>
     requires { IsThere (levels_of asked.source) seen.now.level seen.now.rank }
-    ensures { (stands : ℕ → Option (Option (List ℕ))) (images : List Image) → SaysBy asked.entry.source stands images → (board : List ℕ) → IsAt images seen.now.level seen.now.rank board seen.now.entry
+    ensures { (stands : Stands) (images : List Image) → SaysBy asked.entry.source stands images → (board : List ℕ) → IsAt images seen.now.level seen.now.rank board seen.now.entry
         → result ≡ (if asked.entry.wanted.now.with_keep then Some (keeping_moves images board) else None) }
 {
     if !asked.wanted.with_keep {
@@ -146,7 +147,7 @@ fn keeping(asked: Asked<'_>, seen: &Seen) -> Option<u8>
 /// The numbers of a board's line. Conditions: the level is there, and has that many boards.
 fn numbers_of(asked: Asked<'_>, seen: &Seen) -> LineNumbers
     requires { IsThere (levels_of asked.source) seen.now.level seen.now.rank }
-    ensures { (stands : ℕ → Option (Option (List ℕ))) (images : List Image) → SaysBy asked.entry.source stands images → (board : List ℕ) → IsAt images seen.now.level seen.now.rank board seen.now.entry
+    ensures { (stands : Stands) (images : List Image) → SaysBy asked.entry.source stands images → (board : List ℕ) → IsAt images seen.now.level seen.now.rank board seen.now.entry
         → result ≡ numbers_of asked.entry.wanted.now images board }
 {
     let keep = keeping(asked, seen);

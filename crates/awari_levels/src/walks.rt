@@ -1,6 +1,7 @@
 //! A walk over the boards of a level, by rank, that finds those that are wanted.
 
 ghost use Rattle.std.specs.Prelude.{◌≡◌, ◌<◌, ◌≤◌, ◌+◌, ◌%◌, ◌==◌, ◌&&◌, ℕ, [], if◌then◌else◌, List, Option, IfErr, IfOk};
+ghost use Rattle.awari_folder.specs.Contents.{Stands};
 ghost use Rattle.awari_facts.specs.Numbers.{IsAt};
 ghost use Rattle.awari_facts.specs.Sources.{IsThere, IsUnreadFrom, SaysBy, levels_of};
 ghost use Rattle.awari_folder.specs.State.{Unchanged};
@@ -101,10 +102,10 @@ pub(crate) fn look<R: Threads + Sync>(
     seen: &Seen,
 ) -> Option<i64>
     requires { IsThere (levels_of asked.source) seen.now.level seen.now.rank }
-    ensures key { (stands : ℕ → Option (Option (List ℕ))) (images : List Image) → SaysBy asked.entry.source stands images
+    ensures key { (stands : Stands) (images : List Image) → SaysBy asked.entry.source stands images
         → HasKeys asked.entry.wanted.now images seen.now.level segment.old → (board : List ℕ) → IsAt images seen.now.level seen.now.rank board seen.now.entry
         → result ≡ key_if asked.entry.wanted.now images board }
-    ensures keys { (stands : ℕ → Option (Option (List ℕ))) (images : List Image) → SaysBy asked.entry.source stands images
+    ensures keys { (stands : Stands) (images : List Image) → SaysBy asked.entry.source stands images
         → HasKeys asked.entry.wanted.now images seen.now.level segment.old → HasKeys asked.entry.wanted.now images seen.now.level segment.new }
 {
     match asked.source {

@@ -13,7 +13,7 @@ use Rattle.awari_folder.specs.declared.faults.FolderFault.{FolderFault}
 use Rattle.awari_folder.specs.declared.faults.FolderFault.TheVariants.{Below, File, Open, Verify, Memory, Occupied, Old}
 use Rattle.awari_folder.specs.declared.loading.Stored.{Stored}
 use Rattle.awari_migrate.specs.declared.migrating.Limits.{Limits}
-use Rattle.awari_folder.specs.Contents.{Same, SameBut, LeavesToo, Lacks, OpenIfRefused, OpenIfEither, Refusals, Refuses, TellsRefusal, AreNames, HoldsIn}
+use Rattle.awari_folder.specs.Contents.{Same, SameBut, LeavesToo, Lacks, OpenIfRefused, OpenIfEither, Refusals, Refuses, TellsRefusal, AreNames, HoldsIn, Stands}
 use Rattle.awari_folder.specs.State.{IsOwnIfFree}
 use Rattle.awari_migrate.specs.Migration.{IsDueIn, IsMigratedFile, MigrateLevels, CanMigrate, IsMigrationFault, IsStoreFault, IsMigrated, IsFirstMigrationFault, LeavesWhole}
 use Rattle.awari_folder.specs.Verifying.{IsMisplaced}
@@ -31,19 +31,19 @@ fault_of_name shelf below (Some bytes) other fault h = h
 
 -- ---- a level that is stored
 
-pub holds_same : (old new : ℕ → Option (Option (List ℕ))) (shelf : List Image) (digest : List ℕ) → Same old new → HoldsIn old shelf digest → HoldsIn new shelf digest
+pub holds_same : (old new : Stands) (shelf : List Image) (digest : List ℕ) → Same old new → HoldsIn old shelf digest → HoldsIn new shelf digest
 holds_same old new shelf digest same (names, are, held) = (names, λ n. same n ∙ are n, held)
 
 -- ---- all levels
 
 -- How far a migration has come: this many levels, and from there on all names are as they were.
-pub record HasCome (names others : ℕ → Option (List ℕ)) (stands : ℕ → Option (Option (List ℕ))) (n : ℕ) (shelf : List Image) (below : List ℕ) (limits : List Limits) (digest : List ℕ) : Type 0 where
+pub record HasCome (names others : ℕ → Option (List ℕ)) (stands : Stands) (n : ℕ) (shelf : List Image) (below : List ℕ) (limits : List Limits) (digest : List ℕ) : Type 0 where
   pub migrated : MigrateLevels names n shelf below limits
   pub free : (i : ℕ) → i < n → others i ≡ None
   pub stored : HoldsIn stands shelf digest
   pub rest : (i : ℕ) → n ≤ i → stands i ≡ Some (others i)
 
-pub come-none : (names others : ℕ → Option (List ℕ)) (stands : ℕ → Option (Option (List ℕ))) (shelf : List Image) (limits : List Limits) → AreNames stands others → shelf ≡ [] → limits ≡ []
+pub come-none : (names others : ℕ → Option (List ℕ)) (stands : Stands) (shelf : List Image) (limits : List Limits) → AreNames stands others → shelf ≡ [] → limits ≡ []
     → HasCome names others stands 0 shelf (replicate 32 0) limits (replicate 32 0)
 come-none names others stands shelf limits are none no_limits = record {
   migrated = (none, refl, no_limits);
@@ -59,7 +59,7 @@ free_here (Some o) other is free = let same : o ≡ other = cc in sym same ∙ f
 free_more : (others : ℕ → Option (List ℕ)) (n i : ℕ) → ((k : ℕ) → k < n → others k ≡ None) → others n ≡ None → i < n + 1 → others i ≡ None
 free_more others n i free own lt = ⊎_elim (λ e. ap others e.1 ∙ own) (λ e. free i (omega (arith, lt, e.1))) (eqb_tells i n)
 
-pub come-more : (names others : ℕ → Option (List ℕ)) (old new : ℕ → Option (Option (List ℕ))) (n : ℕ) (shelf : List Image) (below last : List ℕ) (limits : List Limits) (digest end : List ℕ) (image : Image) (more : Limits)
+pub come-more : (names others : ℕ → Option (List ℕ)) (old new : Stands) (n : ℕ) (shelf : List Image) (below last : List ℕ) (limits : List Limits) (digest end : List ℕ) (image : Image) (more : Limits)
     → HasCome names others old n shelf below limits digest → IsSomeAnd (names n) (λ bytes. IsMigratedFile shelf below bytes image last more)
     → IfSome (old n) (λ other. other ≡ None) → SameBut n old new → HoldsIn new (shelf ++ image ∷ []) end
     → HasCome names others new (n + 1) (shelf ++ image ∷ []) last (limits ++ more ∷ []) end
@@ -77,7 +77,7 @@ pub longer : (shelf after : List Image) (image : Image) (n : ℕ) → length she
 longer shelf after image n long is = ap length is ∙ one_longer shelf image ∙ ap (λ k. k + 1) long
 
 -- The same of a level that was stored, and put on top.
-pub come-next : (names others : ℕ → Option (List ℕ)) (old new : ℕ → Option (Option (List ℕ))) (n : ℕ) (shelf after : List Image) (below last : List ℕ) (limits all : List Limits) (digest end : List ℕ) (image put : Image) (more : Limits)
+pub come-next : (names others : ℕ → Option (List ℕ)) (old new : Stands) (n : ℕ) (shelf after : List Image) (below last : List ℕ) (limits all : List Limits) (digest end : List ℕ) (image put : Image) (more : Limits)
     → length shelf ≡ n → put ≡ image → Consistent shelf image → HasCome names others old n shelf below limits digest
     → IsSomeAnd (names (length shelf)) (λ bytes. IsMigratedFile shelf below bytes image last more) → IfSome (old put.level) (λ other. other ≡ None) → SameBut put.level old new
     → ((s : List Image) → HoldsIn old s digest → Consistent s put → HoldsIn new (s ++ put ∷ []) end) → after ≡ shelf ++ image ∷ [] → all ≡ limits ++ more ∷ []
@@ -130,7 +130,7 @@ stays_free None bytes is free = absurd cc
 stays_free (Some other) bytes is free = let has : other ≡ Some bytes = cc in absurd cc
 
 -- no room, before any level
-pub memory_first : (names others : ℕ → Option (List ℕ)) (stands : ℕ → Option (Option (List ℕ))) → AreNames stands others → IsFirstMigrationFault names others stands Memory
+pub memory_first : (names others : ℕ → Option (List ℕ)) (stands : Stands) → AreNames stands others → IsFirstMigrationFault names others stands Memory
 memory_first names others stands are = record {
   level = 0;
   shelf = [];
@@ -145,7 +145,7 @@ memory_first names others stands are = record {
 }
 
 -- a fault of the next level
-pub fault_first : (names others : ℕ → Option (List ℕ)) (stands : ℕ → Option (Option (List ℕ))) (n : ℕ) (shelf : List Image) (below : List ℕ) (limits : List Limits) (digest : List ℕ) (fault : FolderFault)
+pub fault_first : (names others : ℕ → Option (List ℕ)) (stands : Stands) (n : ℕ) (shelf : List Image) (below : List ℕ) (limits : List Limits) (digest : List ℕ) (fault : FolderFault)
     → length shelf ≡ n → HasCome names others stands n shelf below limits digest → IsMigrationFault shelf below (names (length shelf)) (others (length shelf)) fault → IsFirstMigrationFault names others stands fault
 fault_first names others stands n shelf below limits digest fault long come here = record {
   level = n;
@@ -170,7 +170,7 @@ stored_at None other number fault is h = absurd cc
 stored_at (Some o) other number fault is h = let same : o ≡ other = cc in subst (λ (p : Option (List ℕ)). IsStoreFault number p fault) same h
 
 -- a fault of the next level, once it was brought over
-pub store_first : (names others : ℕ → Option (List ℕ)) (old new : ℕ → Option (Option (List ℕ))) (n : ℕ) (shelf : List Image) (below last : List ℕ) (limits : List Limits) (digest : List ℕ) (image put : Image) (more : Limits) (fault : FolderFault)
+pub store_first : (names others : ℕ → Option (List ℕ)) (old new : Stands) (n : ℕ) (shelf : List Image) (below last : List ℕ) (limits : List Limits) (digest : List ℕ) (image put : Image) (more : Limits) (fault : FolderFault)
     → length shelf ≡ n → put ≡ image → HasCome names others old n shelf below limits digest → IsSomeAnd (names (length shelf)) (λ bytes. IsMigratedFile shelf below bytes image last more) → Consistent shelf image
     → IfSome (old put.level) (λ other. IsStoreFault put.level other fault) → Same old new → IsFirstMigrationFault names others new fault
 store_first names others old new n shelf below last limits digest image put more fault long is come next right h same =
@@ -182,7 +182,7 @@ store_first names others old new n shelf below last limits digest image put more
     (migration_fault shelf below (names (length shelf)) (others (length shelf)) put.level fault level (can_migrate (names (length shelf)) shelf below image last more next) (subst (λ (o : Option (List ℕ)). IsStoreFault put.level o fault) at due))
 
 -- the end of a migration
-pub come_end : (names others : ℕ → Option (List ℕ)) (stands : ℕ → Option (Option (List ℕ))) (n : ℕ) (shelf : List Image) (below : List ℕ) (limits : List Limits) (digest : List ℕ)
+pub come_end : (names others : ℕ → Option (List ℕ)) (stands : Stands) (n : ℕ) (shelf : List Image) (below : List ℕ) (limits : List Limits) (digest : List ℕ)
     → length shelf ≡ n → HasCome names others stands n shelf below limits digest → (names (length shelf) ≡ None) ⊎ (HIGHEST_LEVEL < length shelf) → IsMigrated names others stands limits digest
 come_end names others stands n shelf below limits digest long come end = record {
   shelf = shelf;
@@ -225,13 +225,13 @@ leaves_of (Some o) other before after level text is leaves =
     let same : o ≡ other = cc in subst (λ (p : Option (List ℕ)). LeavesToo level (λ left. (p ≡ None) × (left ≡ Some text)) before after) same leaves
 
 -- one level more
-pub leaves-more : (others : ℕ → Option (List ℕ)) (stands : ℕ → Option (Option (List ℕ))) (first before after : ℕ → Option (List ℕ) → Type 0) (image : Image) (below : List ℕ) → stands image.level ≡ Some (others image.level)
+pub leaves-more : (others : ℕ → Option (List ℕ)) (stands : Stands) (first before after : ℕ → Option (List ℕ) → Type 0) (image : Image) (below : List ℕ) → stands image.level ≡ Some (others image.level)
     → LeavesWhole others first before → IfSome (stands image.level) (λ o. LeavesToo image.level (IsOwnIfFree image below o) before after) → LeavesWhole others first after
 leaves-more others stands first before after image below is whole leaves n left end =
     let one = leaves_of (stands image.level) (others image.level) before after image.level (file_text 2 image below) is leaves in
     ⊎_elim (λ l. whole n left l) (λ r. inr (ap others r.0 ∙ r.1.0, (image, below, r.1.1))) (one n left end)
 
 -- names that were as they had been, before a level more
-pub rest-more : (others : ℕ → Option (List ℕ)) (old new : ℕ → Option (Option (List ℕ))) (n level : ℕ) → level ≡ n → SameBut level old new → ((i : ℕ) → n ≤ i → old i ≡ Some (others i))
+pub rest-more : (others : ℕ → Option (List ℕ)) (old new : Stands) (n level : ℕ) → level ≡ n → SameBut level old new → ((i : ℕ) → n ≤ i → old i ≡ Some (others i))
     → (i : ℕ) → n + 1 ≤ i → new i ≡ Some (others i)
 rest-more others old new n level is same rest i le = same i (λ e. omega (arith, le, e, is)) ∙ rest i (omega (arith, le))

@@ -19,7 +19,7 @@ use Rattle.awari_folder.specs.declared.faults.FolderFault.TheVariants.{Below, Fi
 use Rattle.awari_migrate.specs.declared.migrating.Limits.{Limits}
 use Rattle.awari_migrate.specs.declared.migrating.MigratedLevel.{MigratedLevel}
 use Rattle.awari_folder.specs.NextFile.{IsOverAnother, IsWrong}
-use Rattle.awari_folder.specs.Contents.{AreNames, HoldsIn, LeavesStill}
+use Rattle.awari_folder.specs.Contents.{AreNames, HoldsIn, LeavesStill, Stands}
 use Rattle.awari_folder.specs.State.{State}
 
 -- the fault of an image by the rules of its version
@@ -60,7 +60,7 @@ IsNextMigrated shelf below name (Some migrated) = IsSomeAnd name (λ bytes. IsMi
 
 -- All levels up to the first whose file is not there, or the highest, were brought over. Where there was no file of theirs,
 -- their files are now, and the last one ends in this digest; the other names have what they had.
-pub record IsMigrated (names others : ℕ → Option (List ℕ)) (stands : ℕ → Option (Option (List ℕ))) (limits : List Limits) (digest : List ℕ) : Type 0 where
+pub record IsMigrated (names others : ℕ → Option (List ℕ)) (stands : Stands) (limits : List Limits) (digest : List ℕ) : Type 0 where
   pub shelf : List Image
   pub last : List ℕ
   pub migrated : MigrateLevels names (length shelf) shelf last limits
@@ -90,7 +90,7 @@ IsMigrationFault shelf below name other (Old level) = ⊥
 
 -- The files below some level were brought over, and that level has the fault. What was brought over stands, and the other
 -- names have what they had.
-pub record IsFirstMigrationFault (names others : ℕ → Option (List ℕ)) (stands : ℕ → Option (Option (List ℕ))) (fault : FolderFault) : Type 0 where
+pub record IsFirstMigrationFault (names others : ℕ → Option (List ℕ)) (stands : Stands) (fault : FolderFault) : Type 0 where
   pub level : ℕ
   pub shelf : List Image
   pub below : List ℕ

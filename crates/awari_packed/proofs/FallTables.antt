@@ -1,19 +1,11 @@
 -- The tables of the sowings, tested at each place by computing.
-use Rattle.std.proofs.Common.{◌≡◌, ℕ, zero, suc, ◌<◌, Bool, true, ◌&&◌, eqb, [], get_or, map, refl}
-use Rattle.std.proofs.lemmas.Bool.Decides.{Decides-below_and, Decides-eqb}
+use Rattle.std.proofs.Common.{◌≡◌, ℕ, ◌<◌, Bool, true, eqb, [], get_or, map, refl}
 use Rattle.std.specs.List.{range_with_len}
 use Rattle.awari_board.specs.Rules.{fallen, landing}
+use Rattle.awari_rank.proofs.Table.{all_below, below_all}
 use Rattle.awari_packed.specs.Packed.{packed}
 use Rattle.awari_packed.specs.declared.scattering.TheConstants.{SCATTERED, LAST}
 use Rattle.std.proofs.lemmas.Bool.{eqb-true}
-
-unfoldable pub all_below : (ℕ → Bool) → ℕ → Bool
-all_below p zero = true
-all_below p (suc n) = p n && all_below p n
-
-pub below_all : (p : ℕ → Bool) (n : ℕ) → all_below p n ≡ true → (k : ℕ) → k < n → p k ≡ true
-unfolding all_below
-below_all p n h = (Decides-below_and p (λ k. p k ≡ true) (all_below p) (λ k. (λ e. e, λ e. e)) refl (λ _. refl) n).0 h
 
 unfoldable pub at : ℕ → ℕ → ℕ
 at i n = get_or (get_or SCATTERED i []) n 0

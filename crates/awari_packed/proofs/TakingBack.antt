@@ -6,7 +6,7 @@ use Rattle.awari_packed.specs.Packed.{pits_of, IsPacking, IsPackOf, packed-pits_
 use Rattle.awari_packed.specs.TakenBack.{taken_back}
 use Rattle.awari_packed.specs.declared.taking_back.TheConstants.{TAKEN_BACK}
 use Rattle.awari_packed.proofs.Digits.{long-pits_of, pits-from_IsPackOf, IsPacking-from_IsPackOf}
-use Rattle.awari_packed.proofs.FallTables.{all_below, below_all}
+use Rattle.awari_rank.proofs.Table.{all_below, below_all}
 use Rattle.awari_packed.proofs.Moving.{stone_moved, stone_moves}
 
 unfoldable pub at : ℕ → ℕ → ℕ

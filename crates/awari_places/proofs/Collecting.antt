@@ -5,6 +5,7 @@ use Rattle.std.specs.List.{range_with_len}
 use Rattle.std.proofs.lemmas.Bool.{cases_lt}
 use Rattle.std.proofs.lemmas.List.{get_or_append_left, get_or_push, length-append, take_all}
 use Rattle.std.proofs.lemmas.List.FromFn.{length-map-range_with_len}
+use Rattle.awari_folder.specs.Contents.{Stands}
 use Rattle.awari_rank.proofs.Reaching.{size_of-positive}
 use Rattle.awari_rank.specs.Rank.{size_of}
 use Rattle.awari_table.proofs.ShelfLemmas.{take-read}
@@ -19,7 +20,7 @@ use Rattle.awari_places.proofs.Reading.{image_got, levels_said}
 abbrev pub AreFirst : List Image → ℕ → ℕ → List Entry → Type 0
 AreFirst images level rank entries = IsSomeAnd (slice_get images level) (λ image. entries ≡ take rank image.entries)
 
-pub first-none : (stands : ℕ → Option (Option (List ℕ))) (levels level : ℕ) (images : List Image) (entries : List Entry) → Says stands levels images → level < levels → entries ≡ [] → AreFirst images level 0 entries
+pub first-none : (stands : Stands) (levels level : ℕ) (images : List Image) (entries : List Entry) → Says stands levels images → level < levels → entries ≡ [] → AreFirst images level 0 entries
 first-none stands levels level images entries says low none =
     subst (λ (o : Option Image). IsSomeAnd o (λ image. entries ≡ take 0 image.entries)) (sym (image_got stands levels level images says low)) none
 
@@ -59,7 +60,7 @@ is_made level limit (Some bytes) entries limited are long =
 some_is : (o : Option Image) (image : Image) (P : Image → Type 0) → o ≡ Some image → IsSomeAnd o P → P image
 some_is o image P is holds = subst (λ (q : Option Image). IsSomeAnd q P) is holds
 
-pub level_is : (stands : ℕ → Option (Option (List ℕ))) (levels level limit : ℕ) (images : List Image) (entries : List Entry) → Says stands levels images → level < levels
+pub level_is : (stands : Stands) (levels level limit : ℕ) (images : List Image) (entries : List Entry) → Says stands levels images → level < levels
     → IsSomeAnd (slice_get images level) (λ image. limit ≡ image.limit) → AreFirst images level (size_of level) entries → length entries ≡ size_of level → slice_get images level ≡ Some (made level limit entries)
 level_is stands levels level limit images entries says low limited are long =
     let got = image_got stands levels level images says low in
@@ -96,5 +97,5 @@ formed-more images next image n formed long low number sized is =
 pub levels-more : (images read next : List Image) (image : Image) (n : ℕ) → read ≡ take n images → slice_get images n ≡ Some image → next ≡ read ++ image ∷ [] → next ≡ take (n + 1) images
 levels-more images read next image n before there more = more ∙ ap (λ (ms : List Image). ms ++ image ∷ []) before ∙ sym (take-read images n image there)
 
-pub levels-all : (stands : ℕ → Option (Option (List ℕ))) (levels n : ℕ) (images read : List Image) → Says stands levels images → read ≡ take n images → levels ≤ n → read ≡ images
+pub levels-all : (stands : Stands) (levels n : ℕ) (images read : List Image) → Says stands levels images → read ≡ take n images → levels ≤ n → read ≡ images
 levels-all stands levels n images read says before all = before ∙ take_all n images (omega (arith, all, levels_said stands levels images says))

@@ -17,7 +17,7 @@ use Rattle.awari_file.proofs.FieldLaws.{followed_by}
 use Rattle.awari_file.proofs.FileLaws.{header-is}
 use Rattle.awari_folder.specs.declared.faults.FolderFault.{FolderFault}
 use Rattle.awari_folder.specs.declared.faults.FolderFault.TheVariants.{Below, File, Open, Verify, Memory, Occupied, Old}
-use Rattle.awari_folder.specs.Contents.{IsOfFile, Reads}
+use Rattle.awari_folder.specs.Contents.{IsOfFile, Reads, Stands}
 use Rattle.awari_rank.specs.Rank.{size_of}
 use Rattle.awari_verify.specs.declared.rules.Rule.TheVariants.{V7}
 use Rattle.awari_verify.specs.declared.verdicts.VerifyFault.TheVariants.{Refused, WrongLevel}
@@ -99,7 +99,7 @@ image_limit names level limit frame =
     ap (λ (o : Option (List ℕ)). (image_in level o).limit) there ∙ limit_framed level (length bytes) limit (header_at faults.Truncated bytes) (after_guard (nat_lt (length bytes) 52) (File level faults.Truncated) _ limit is)
 
 -- what the files say of the limit
-pub limit_said : (stands : ℕ → Option (Option (List ℕ))) (levels level limit : ℕ) (images : List Image) (says : Says stands levels images) → level < levels → IsFrame level (says.names level) (Some limit)
+pub limit_said : (stands : Stands) (levels level limit : ℕ) (images : List Image) (says : Says stands levels images) → level < levels → IsFrame level (says.names level) (Some limit)
     → IsSomeAnd (slice_get images level) (λ image. limit ≡ image.limit)
 limit_said stands levels level limit images says low frame =
     subst (λ (o : Option Image). IsSomeAnd o (λ image. limit ≡ image.limit)) (sym (image_got stands levels level images says low)) (sym (image_limit says.names level limit frame))

@@ -9,7 +9,7 @@ use Rattle.awari_table.specs.declared.images.Entry.{Entry}
 use Rattle.awari_table.specs.declared.images.Image.{Image}
 use Rattle.awari_folder.specs.declared.faults.FolderFault.{FolderFault}
 use Rattle.awari_folder.specs.declared.faults.FolderFault.TheVariants.{Below, File, Open, Verify, Memory, Occupied, Old}
-use Rattle.awari_folder.specs.Contents.{IsOfFile, OpenIfRefused, Refusals}
+use Rattle.awari_folder.specs.Contents.{IsOfFile, OpenIfRefused, Refusals, Stands}
 use Rattle.awari_places.specs.Places.{Says, entry_in, image_in, image_named, images_in}
 use Rattle.awari_places.proofs.Saying.{some_of}
 pub use Rattle.awari_places.specs.Lasting.{levels_said, still_says}
@@ -37,7 +37,7 @@ unfolding image_in
 entry_there level rank bytes lt = get_or-map-range_with_len (entry_in bytes) 0 (size_of level) rank rank no_entry lt (omega arith)
 
 -- what lies at a board's place is what the files say of the board
-pub entry_said : (stands : ℕ → Option (Option (List ℕ))) (levels : ℕ) (images : List Image) (p : List ℕ) (e : Entry) (says : Says stands levels images) → sum p < levels → rank_of p < size_of (sum p)
+pub entry_said : (stands : Stands) (levels : ℕ) (images : List Image) (p : List ℕ) (e : Entry) (says : Says stands levels images) → sum p < levels → rank_of p < size_of (sum p)
     → IsSomeAnd (says.names (sum p)) (λ bytes. e ≡ entry_in bytes (rank_of p)) → e ≡ entry_of images p
 unfolding entry_of
 entry_said stands levels images p e says low below there =
@@ -49,7 +49,7 @@ entry_said stands levels images p e says low below there =
     ∙ ap (λ (l : List Image). get_or (get_or l (sum p) no_image).entries (rank_of p) no_entry) (sym says.said)
 
 -- the same, by the level and the rank that were read
-pub entry_said_at : (stands : ℕ → Option (Option (List ℕ))) (levels : ℕ) (images : List Image) (p : List ℕ) (level rank : ℕ) (r : Result Entry FolderFault) (says : Says stands levels images)
+pub entry_said_at : (stands : Stands) (levels : ℕ) (images : List Image) (p : List ℕ) (level rank : ℕ) (r : Result Entry FolderFault) (says : Says stands levels images)
     → level ≡ sum p → rank ≡ rank_of p → sum p < levels → rank < size_of (sum p) → IfOk r (λ e. IsSomeAnd (says.names level) (λ bytes. e ≡ entry_in bytes rank)) → IfOk r (λ e. e ≡ entry_of images p)
 entry_said_at stands levels images p level rank (Err fault) says stones ranked low below there = tt
 entry_said_at stands levels images p level rank (Ok e) says stones ranked low below there =
@@ -57,7 +57,7 @@ entry_said_at stands levels images p level rank (Ok e) says stones ranked low be
     let here : IsSomeAnd (says.names (sum p)) (λ bytes. e ≡ entry_in bytes (rank_of p)) = subst (λ (k : ℕ). IsSomeAnd (says.names (sum p)) (λ bytes. e ≡ entry_in bytes k)) ranked at in
     entry_said stands levels images p e says low (subst (λ (k : ℕ). k < size_of (sum p)) ranked below) here
 
-pub image_got : (stands : ℕ → Option (Option (List ℕ))) (levels level : ℕ) (images : List Image) (says : Says stands levels images) → level < levels
+pub image_got : (stands : Stands) (levels level : ℕ) (images : List Image) (says : Says stands levels images) → level < levels
     → slice_get images level ≡ Some (image_in level (says.names level))
 image_got stands levels level images says low =
     slice_get-get_or images level no_image (omega (arith, low, levels_said stands levels images says))

@@ -8,7 +8,7 @@ use Rattle.awari_file.specs.FileText.{entry_place}
 use Rattle.awari_file.specs.Reading.{◌>>=◌, entry_of, field}
 use Rattle.awari_file.specs.declared.faults.FileFault.{FileFault}
 use Rattle.awari_file.specs.declared.faults.FileFault.TheVariants as faults
-use Rattle.awari_folder.specs.Contents.{Reads}
+use Rattle.awari_folder.specs.Contents.{Reads, Stands}
 use Rattle.awari_folder.specs.declared.faults.FolderFault.{FolderFault}
 use Rattle.awari_folder.specs.declared.faults.FolderFault.TheVariants.{File, Verify, Memory}
 use Rattle.awari_rank.specs.Rank.{rank_of}
@@ -25,13 +25,10 @@ use Rattle.awari_play.specs.Unplayed.{IsUnlined}
 use Rattle.awari_play.specs.declared.lookups.Unplayed.{Unplayed}
 use Rattle.awari_play.specs.declared.lookups.Unplayed.TheVariants as unplayed
 use Rattle.awari_places.specs.Asked.{by_files, misjudged_by, stands_in}
-use Rattle.awari_places.specs.Faults.{IsEntryFault, IsFileFaultAt, IsJudgeFault, IsLookFault, IsPlaceFault, IsPliesFault, IsRefusedAt, refusal_of, rule_due}
+use Rattle.awari_places.specs.Faults.{IsEntryFault, IsFileFaultAt, IsJudgeFault, IsLookFault, IsPlaceFault, IsPliesFault, IsRefusedAt, unplayed_fault, rule_due}
 use Rattle.awari_places.specs.declared.files.Files.{Files}
 use Rattle.awari_places.specs.Places.{Says}
 pub use Rattle.awari_places.specs.Lasting.{look_before, refused_before}
-
-abbrev Stands : Type 0
-Stands = ℕ → Option (Option (List ℕ))
 
 -- ---- what was read at a place
 
@@ -102,7 +99,7 @@ look_in state files fault is = record { board = is.board; known = is.known; here
 
 -- why the one or the other line is not told
 pub plies_fault : {F : Type 0} (state : F → State) (files : Files F) (longest : Bool) (fault : Unplayed FolderFault) → 0 < files.levels
-    → IsUnlined longest (by_files state) (misjudged_by state) files fault → IsPliesFault longest files.levels (stands_in state files) (refusal_of (rule_due longest) fault)
+    → IsUnlined longest (by_files state) (misjudged_by state) files fault → IsPliesFault longest files.levels (stands_in state files) (unplayed_fault (rule_due longest) fault)
 plies_fault state files true unplayed.Memory some is = inl (inl (memory_at _ _ some))
 plies_fault state files true (unplayed.Refused fault) some (inl is) = inl (inl (look_in state files fault is))
 plies_fault state files true (unplayed.Refused fault) some (inr is) = inl is

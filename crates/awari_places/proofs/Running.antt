@@ -12,7 +12,7 @@ use Rattle.awari_file.specs.FileText.{entry_place}
 use Rattle.awari_file.specs.Reading.{entry_of}
 use Rattle.awari_file.specs.declared.faults.FileFault.{FileFault}
 use Rattle.awari_file.specs.declared.faults.FileFault.TheVariants as faults
-use Rattle.awari_folder.specs.Contents.{Reads, Same}
+use Rattle.awari_folder.specs.Contents.{Reads, Same, Stands}
 use Rattle.awari_folder.specs.declared.faults.FolderFault.{FolderFault}
 use Rattle.awari_folder.specs.declared.faults.FolderFault.TheVariants.{File}
 use Rattle.awari_places.specs.Faults.{IsEntryFault, IsFaultFrom, IsPlaceFault}
@@ -42,7 +42,7 @@ unfolding image_in
 sized level bytes = length-map-range_with_len (entry_in bytes) 0 (size_of level)
 
 -- the entry at a rank
-pub is_entry_at : (stands : ℕ → Option (Option (List ℕ))) (levels level rank : ℕ) (images : List Image) (says : Says stands levels images) (bytes : List ℕ) (e : Entry) → level < levels
+pub is_entry_at : (stands : Stands) (levels level rank : ℕ) (images : List Image) (says : Says stands levels images) (bytes : List ℕ) (e : Entry) → level < levels
     → says.names level ≡ Some bytes → rank < size_of level → e ≡ entry_in bytes rank → IsEntryAt images level rank e
 is_entry_at stands levels level rank images says bytes e low named lt is =
     let got : slice_get images level ≡ Some (image_in level (Some bytes)) = image_got stands levels level images says low ∙ ap (λ (o : Option (List ℕ)). some_image (image_in level o)) named in
@@ -72,7 +72,7 @@ read_whole (Some bytes) place room (Some size) reads long =
     (bytes, refl, reads.1 (omega (arith, same, long)))
 
 -- what is read of a level's file from a rank on, up to its last board at most
-pub run_said : (stands : ℕ → Option (Option (List ℕ))) (levels level rank n : ℕ) (images : List Image) (room : List ℕ) (found : Option ℕ) (run : Run) → Says stands levels images → level < levels
+pub run_said : (stands : Stands) (levels level rank n : ℕ) (images : List Image) (room : List ℕ) (found : Option ℕ) (run : Run) → Says stands levels images → level < levels
     → Reads (stands level) (entry_place rank) room found → IsSomeAnd found (λ size. entry_place rank + length room ≤ size) → length room ≡ 6 * n → rank + n ≤ size_of level → run.first ≡ rank → AreEntriesOf room run
     → IsRunOf images level run
 run_said stands levels level rank n images room found run says low reads whole long few first are k lt =
@@ -146,6 +146,6 @@ fault_form level rank n known room found fault long few reads whole is =
         (omega (arith, same, whole, long, inside, far), subst (λ (l : List ℕ). IsErr (entry_of l)) six is.none)
 
 -- the same of names that have what they had, and of more ranks
-pub fault_before : (level rank first : ℕ) (old new : ℕ → Option (Option (List ℕ))) (fault : FolderFault) → Same old new → first ≤ rank → IsFaultFrom level rank (new level) fault → IsFaultFrom level first (old level) fault
+pub fault_before : (level rank first : ℕ) (old new : Stands) (fault : FolderFault) → Same old new → first ≤ rank → IsFaultFrom level rank (new level) fault → IsFaultFrom level first (old level) fault
 fault_before level rank first old new fault same low is =
     record { at = is.at; from = omega (arith, low, is.from); there = is.there; due = subst (λ (known : Option (Option (List ℕ))). IsEntryFault level is.at known fault) (same level) is.due }

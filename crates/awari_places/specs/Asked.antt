@@ -1,5 +1,6 @@
 -- The files of a folder as a table that is asked board by board.
-use Rattle.std.specs.Prelude.{◌≡◌, ℕ, List, Option}
+use Rattle.std.specs.Prelude.{◌≡◌}
+use Rattle.awari_folder.specs.Contents.{Stands}
 use Rattle.awari_folder.specs.State.{State, Unchanged}
 use Rattle.awari_folder.specs.declared.faults.FolderFault.{FolderFault}
 use Rattle.awari_play.specs.Saying.{Saying}
@@ -8,7 +9,7 @@ use Rattle.awari_places.specs.Places.{Says}
 use Rattle.awari_places.specs.declared.files.Files.{Files}
 
 -- what the names have in the folder
-abbrev pub stands_in : {F : Type 0} → (F → State) → Files F → ℕ → Option (Option (List ℕ))
+abbrev pub stands_in : {F : Type 0} → (F → State) → Files F → Stands
 stands_in state files = (state files.folder.now).stands
 
 -- the folder is lent still, and is unchanged; the levels stay

@@ -2,7 +2,7 @@
 use Rattle.std.proofs.Common.{◌≡◌, ◌∙◌, ℕ, List, Option, ap, inl, inr, length, refl, subst, sum, sym}
 use Rattle.std.proofs.lemmas.List.FromFn.{length-map-range_with_len}
 use Rattle.awari_folder.proofs.States.{unchanged, unchanged_then}
-use Rattle.awari_folder.specs.Contents.{Same}
+use Rattle.awari_folder.specs.Contents.{Same, Stands}
 use Rattle.awari_folder.specs.State.{State}
 use Rattle.awari_folder.specs.declared.faults.FolderFault.{FolderFault}
 use Rattle.awari_play.specs.Saying.{IsLasting}
@@ -12,9 +12,6 @@ use Rattle.awari_places.specs.Asked.{Keeps, by_files, misjudged_by, stands_in}
 use Rattle.awari_places.specs.Faults.{IsBreachFault, IsEntryFault, IsJudgeFault, IsLookFault, IsRefusedAt}
 use Rattle.awari_places.specs.Places.{Says, image_named, images_in}
 use Rattle.awari_places.specs.declared.files.Files.{Files}
-
-abbrev Stands : Type 0
-Stands = ℕ → Option (Option (List ℕ))
 
 -- as many levels speak
 pub levels_said : (stands : Stands) (levels : ℕ) (images : List Image) → Says stands levels images → length images ≡ levels

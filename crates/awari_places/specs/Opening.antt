@@ -6,7 +6,7 @@ use Rattle.awari_file.specs.declared.faults.FileFault.{FileFault}
 use Rattle.awari_file.specs.declared.faults.FileFault.TheVariants as faults
 use Rattle.awari_file.specs.FileText.{file_len}
 use Rattle.awari_file.specs.Reading.{header_at}
-use Rattle.awari_folder.specs.Contents.{AreNames}
+use Rattle.awari_folder.specs.Contents.{AreNames, Stands}
 use Rattle.awari_folder.specs.declared.faults.FolderFault.{FolderFault}
 use Rattle.awari_folder.specs.declared.faults.FolderFault.TheVariants.{File, Open, Memory, Old, Verify}
 use Rattle.awari_rank.specs.Rank.{size_of}
@@ -71,13 +71,13 @@ pub record IsOpenFault (most : ℕ) (names : ℕ → Option (List ℕ)) (fault :
   pub here : IsFrameFault level (names level) fault
 
 -- the levels up to this one by their headers, where it is known what the names have
-abbrev pub AreOpenedTo : ℕ → (ℕ → Option (Option (List ℕ))) → Opened → Type 0
+abbrev pub AreOpenedTo : ℕ → Stands → Opened → Type 0
 AreOpenedTo most stands opened = (names : ℕ → Option (List ℕ)) → AreNames stands names → AreFramed most names opened
 
 -- where it is known what the names have, this is the first fault of the headers up to this level's
-abbrev pub IsUnopened : ℕ → (ℕ → Option (Option (List ℕ))) → FolderFault → Type 0
+abbrev pub IsUnopened : ℕ → Stands → FolderFault → Type 0
 IsUnopened most stands fault = (names : ℕ → Option (List ℕ)) → AreNames stands names → IsOpenFault most names fault
 
 -- how many levels the folder has up to this one, by their headers
-abbrev pub CountsOpened : ℕ → (ℕ → Option (Option (List ℕ))) → ℕ → Type 0
+abbrev pub CountsOpened : ℕ → Stands → ℕ → Type 0
 CountsOpened level stands n = (opened : Opened) × AreOpenedTo (min level HIGHEST_LEVEL) stands opened × (n ≡ opened.levels)

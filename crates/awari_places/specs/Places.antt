@@ -11,7 +11,7 @@ use Rattle.awari_file.specs.declared.faults.FileFault.{FileFault}
 use Rattle.awari_file.specs.declared.faults.FileFault.TheVariants as faults
 use Rattle.awari_file.specs.FileText.{entry_place}
 use Rattle.awari_file.specs.Reading.{entry_of, header_at}
-use Rattle.awari_folder.specs.Contents.{AreNames}
+use Rattle.awari_folder.specs.Contents.{AreNames, Stands}
 
 -- what was read, or what stands for an entry that is not there
 abbrev pub entry_or_none : Result Entry FileFault → Entry
@@ -44,7 +44,7 @@ unfoldable pub images_in : (ℕ → Option (List ℕ)) → ℕ → List Image
 images_in names levels = map (image_named names) (range_with_len 0 levels)
 
 -- It is known what has the names, and this many of the files say this.
-pub record Says (stands : ℕ → Option (Option (List ℕ))) (levels : ℕ) (images : List Image) : Type 0 where
+pub record Says (stands : Stands) (levels : ℕ) (images : List Image) : Type 0 where
   pub names : ℕ → Option (List ℕ)
   pub known : AreNames stands names
   pub said : images ≡ images_in names levels

@@ -7,7 +7,7 @@ ghost use Rattle.awari_play.specs.BestLine.{IsBestLine};
 ghost use Rattle.awari_play.specs.LongestLine.{IsLongestLine};
 ghost use Rattle.awari_table.specs.Images.{table_of};
 ghost use Rattle.awari_table.specs.declared.images.Image.{Image};
-ghost use Rattle.awari_places.specs.Faults.{IsLineFault, IsLongestFault, IsLowAt, refusal_of};
+ghost use Rattle.awari_places.specs.Faults.{IsLineFault, IsLongestFault, IsLowAt, unplayed_fault};
 ghost use Rattle.awari_places.specs.Places.{IsLevelOf, Says};
 
 use crate::files::Files;
@@ -43,7 +43,7 @@ pub fn best_line<F: Folder>(
     };
     match best_line_by(alloc, &mut files, board, opened.limit) {
         Ok(line) => Ok(line),
-        Err(unplayed) => Err(refusal_of(unplayed, Rule::V3)),
+        Err(unplayed) => Err(unplayed_fault(unplayed, Rule::V3)),
     }
 }
 
@@ -69,14 +69,14 @@ pub fn longest_line<F: Folder>(
     let mut files = Files { folder, levels };
     match longest_line_by(alloc, &mut files, board) {
         Ok(moves) => Ok(moves),
-        Err(unplayed) => Err(refusal_of(unplayed, Rule::V6)),
+        Err(unplayed) => Err(unplayed_fault(unplayed, Rule::V6)),
     }
 }
 
 /// The refusal of a play that is not told by files: a board where no legal pit is due breaks this rule.
-pub(crate) fn refusal_of(unplayed: Unplayed<FolderFault>, rule: Rule) -> FolderFault
+pub(crate) fn unplayed_fault(unplayed: Unplayed<FolderFault>, rule: Rule) -> FolderFault
     requires { IsLowAt unplayed }
-    ensures { result ≡ refusal_of rule unplayed }
+    ensures { result ≡ unplayed_fault rule unplayed }
 {
     match unplayed {
         Unplayed::Memory => FolderFault::Memory,

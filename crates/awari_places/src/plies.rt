@@ -9,7 +9,7 @@ ghost use Rattle.awari_places.specs.Faults.{IsPliesFault, rule_due};
 ghost use Rattle.awari_places.specs.Places.{IsLevelOf, Says};
 
 use crate::files::Files;
-use crate::lines::refusal_of;
+use crate::lines::unplayed_fault;
 use crate::opening::Opened;
 use awari_board::Board;
 use awari_folder::{Folder, FolderFault};
@@ -41,7 +41,7 @@ pub fn line_plies<F: Folder>(
     };
     match line_plies_by(alloc, &mut files, board, opened.limit, longest) {
         Ok(plies) => Ok(plies),
-        Err(unplayed) => Err(refusal_of(unplayed, rule_due(longest))),
+        Err(unplayed) => Err(unplayed_fault(unplayed, rule_due(longest))),
     }
 }
 

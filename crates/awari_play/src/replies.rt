@@ -46,7 +46,7 @@ pub(crate) fn replies_to<T: Table>(
 
 /// How many of these moves of a board gain what its entry says. Condition: there are at most six. It
 /// takes no memory.
-pub fn count_keeping(entry: Entry, replies: &[MoveWorth]) -> u8
+pub(crate) fn count_keeping(entry: Entry, replies: &[MoveWorth]) -> u8
     requires { length replies.now ≤ 6 }
     ensures { result ≡ count_by (keeps entry.value) replies.now }
 {

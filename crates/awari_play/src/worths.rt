@@ -114,7 +114,7 @@ pub fn reached<T: Table>(table: &mut T, board: &Board, pit: u8) -> Result<Reache
 }
 
 /// What a move of this pit is worth that captures and leads to this. It takes no memory.
-pub fn worth_by(pit: u8, reached: Reached) -> MoveWorth
+pub(crate) fn worth_by(pit: u8, reached: Reached) -> MoveWorth
     ensures pit { result.pit ≡ pit }
     ensures captured { result.captured ≡ reached.captured }
     ensures gain { result.value ≡ gain_of reached }

@@ -19,7 +19,7 @@ sample-push d (y ∷ ys) x = go (is_drawn d) (sample-push (drawn d) ys x)
     go true rest = ap (λ t. y ∷ t) rest
     go false rest = rest
 
-left-none : {A : Type 0} (xs : List A) → left_after None xs ≡ None
+pub left-none : {A : Type 0} (xs : List A) → left_after None xs ≡ None
 left-none [] = refl
 left-none (x ∷ xs) = left-none xs
 

@@ -15,11 +15,11 @@ fewer-one (suc n) = omega (arith, fewer-one n, ways-suc 0 n, fewer-zero n)
 fewer-step : (k n : ℕ) → fewer (suc k) (n + 1) ≡ fewer (suc k) n + fewer k (n + 1)
 fewer-step k n = omega (arith, total-add-one (ways (suc k)) n, ways-suc k n)
 
-all_below : (ℕ → Bool) → ℕ → Bool
+unfoldable pub all_below : (ℕ → Bool) → ℕ → Bool
 all_below p zero = true
 all_below p (suc n) = p n && all_below p n
 
-below_all : (p : ℕ → Bool) (n : ℕ) → all_below p n ≡ true → (k : ℕ) → k < n → p k ≡ true
+pub below_all : (p : ℕ → Bool) (n : ℕ) → all_below p n ≡ true → (k : ℕ) → k < n → p k ≡ true
 unfolding all_below
 below_all p n h = (Decides-below_and p (λ k. p k ≡ true) (all_below p) (λ k. (λ e. e, λ e. e)) refl (λ _. refl) n).0 h
 

@@ -2,7 +2,7 @@
 use Rattle.std.proofs.Common.{◌≡◌, ℕ, zero, suc, ◌+◌, ◌*◌, ◌-◌, ◌/◌, ◌%◌, ◌^◌, ◌<◌, ◌≤◌, ◌⊎◌, ⊎_elim, inl, inr, Bool, true, false, cond, not, ◌&&◌, eqb, get_or, refl, sym, ap, ◌∙◌, arith}
 use Rattle.std.proofs.lemmas.Bool.{cases_lt, cases_eq}
 use Rattle.std.proofs.lemmas.Bool.Decides.{Decides-eqb}
-use Rattle.awari_packed.proofs.FallTables.{all_below, below_all}
+use Rattle.awari_rank.proofs.Table.{all_below, below_all}
 use Rattle.awari_unmove.specs.Steps.{has_bit, origin_of, is_end, steps_from}
 use Rattle.awari_unmove.specs.declared.steps.TheConstants.{STEPS, LAST_ORIGIN}
 
