@@ -7,7 +7,7 @@ use crate::refusals::{refused, Refusal};
 use crate::HIGHEST_LEVEL;
 use std::sync::PoisonError;
 
-/// A slice of this many boards takes some 20 milliseconds.
+/// How many boards [`Levels::build`] spreads in a slice.
 const SLICE: usize = 100_000;
 /// What a file has beside its entries, and the bytes of an entry.
 const FRAME_BYTES: usize = 84;
