@@ -7,8 +7,6 @@ mod calls;
 #[cfg(test)]
 mod commands;
 #[cfg(test)]
-mod desks;
-#[cfg(test)]
 mod examples;
 #[cfg(test)]
 mod expect;
@@ -21,10 +19,6 @@ mod named;
 mod plain;
 #[cfg(test)]
 mod progress;
-#[cfg(test)]
-mod refusals;
-#[cfg(test)]
-mod services;
 #[cfg(test)]
 mod serving;
 #[cfg(test)]
