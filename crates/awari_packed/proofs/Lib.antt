@@ -1,6 +1,6 @@
 mod Digits
 mod Emptying
-pub mod FallTables
+mod FallTables
 mod Halves
 pub mod Moving
 mod PairTables
