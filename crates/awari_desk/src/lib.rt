@@ -5,7 +5,7 @@
 //! `Pages::tell` gives, for [`Reader::learn`]. [`Reader::ask`] and [`Reader::moves`] look a board up
 //! and wait for nobody. [`serve`] answers the requests of a stream by a reader, or by another [`Oracle`].
 //!
-//! A publisher's next level, built and published, in `crates/awari_cli_tests/src/services.rt`:
+//! A publisher's next level, built and published, in `crates/awari_desk_tests/src/services.rt`:
 //!
 //!     pub(crate) fn publish_next<R: Wait + Drop>(
 //!         alloc: Global,
