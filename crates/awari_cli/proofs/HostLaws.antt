@@ -2,10 +2,10 @@
 use Rattle.std.proofs.Common.{◌≡◌, ◌≢◌, ◌⊎◌, ◌∙◌, ℕ, List, Option, Bool, true, false, refl, sym, subst, inl, inr}
 use Rattle.std.specs.Prelude.{bytes_eq}
 use Rattle.std.proofs.lemmas.Slice.Eq.{bytes_eq-Decides}
-use Rattle.awari_cli.specs.Building.{PrintsLevels}
+use Rattle.awari_builds.specs.Building.{PrintsLevels}
 use Rattle.awari_cli.specs.Done.{LeavesFolders, PrintsBrought, PrintsBuilt}
 use Rattle.awari_host.specs.Hosts.{AllStay, OthersStay}
-use Rattle.awari_cli.specs.Migrating.{PrintsMigrated}
+use Rattle.awari_builds.specs.Migrating.{PrintsMigrated}
 use Rattle.awari_folder.specs.Contents.{Same, KeepsFiles, Stands}
 
 -- two names are one, or they are not

@@ -1,7 +1,1 @@
-mod EstimateLaws
 mod HostLaws
-mod BuildLaws
-mod FolderBuilds
-mod SavedLevels
-mod MigratedLaws
-mod OneFolder

@@ -4,9 +4,9 @@ use Rattle.std.specs.Borrow.{Bor}
 use Rattle.std.specs.Io.KnownBytes.{Keeps}
 use Rattle.awari_check.specs.Answer.{PrintsYes}
 use Rattle.awari_folder.specs.Contents.{Same, KeepsFiles, Stands}
-use Rattle.awari_cli.specs.Building.{PrintsAllLevels, PrintsLevels}
-use Rattle.awari_cli.specs.Migrating.{PrintsMigrated}
-use Rattle.awari_cli.specs.Serving.{PrintsService}
+use Rattle.awari_builds.specs.Building.{PrintsAllLevels, PrintsLevels}
+use Rattle.awari_builds.specs.Migrating.{PrintsMigrated}
+use Rattle.awari_builds.specs.Serving.{PrintsService}
 use Rattle.awari_boards.specs.Asks.{PrintsEntry}
 use Rattle.awari_levels.specs.Wishes.{PrintsFolder}
 use Rattle.awari_boards.specs.Judgement.{PrintsJudgement, bytes_of}

@@ -1,7 +1,1 @@
-pub mod CommandFault
 pub mod Done
-pub mod Estimates
-pub mod Building
-pub mod Migrating
-pub mod Serving
-pub mod Seconds

@@ -5,9 +5,9 @@ ghost use Rattle.awari_cli.specs.Done.{PrintsAnswer, PrintsNumbers};
 ghost use Rattle.awari_host.specs.Hosts.{AllStay};
 ghost use Rattle.awari_folder.specs.Contents.{Same};
 
-use crate::serving::run_serve;
 use awari_answers::{Remarks, Streams, print};
 use awari_boards::{run_ask, run_line, run_moves, run_serve_unverified};
+use awari_builds::run_serve;
 use awari_counts::{run_counts, run_pairs};
 use awari_folder::Folder;
 use awari_host::{Host, Purpose};

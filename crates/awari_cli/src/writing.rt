@@ -2,17 +2,16 @@
 
 ghost use Rattle.std.specs.Prelude.{◌≡◌, ◌≢◌, ◌≤◌, ◌<◌, ℕ, List, Option, Some, false};
 ghost use Rattle.std.specs.Io.KnownBytes.{Keeps};
-ghost use Rattle.awari_cli.specs.Building.{KeepsLevels, PrintsAllLevels, PrintsLevels};
+ghost use Rattle.awari_builds.specs.Building.{KeepsLevels, PrintsAllLevels, PrintsLevels};
 ghost use Rattle.awari_cli.specs.Done.{IsFolder, LeavesFolders, PrintsBrought, PrintsBuild, PrintsBuilt};
 ghost use Rattle.awari_host.specs.Hosts.{AllStay, OthersStay};
 ghost use Rattle.awari_folder.specs.Contents.{AreNames, Same, KeepsFiles};
 
-use crate::building::{Builder, build_up_in, run_build};
-use crate::estimates::{Estimate, warn_of_memory};
-use crate::migrating::run_migrate;
-use crate::progress::{HowTold, ProgressLines};
-use crate::ways::Way;
 use awari_answers::{Remarks, Streams, load_watched, print, refuse};
+use awari_builds::{
+    Builder, Estimate, HowTold, ProgressLines, Way, build_up_in, run_build, run_migrate,
+    warn_of_memory,
+};
 use awari_folder::{Folder, FolderFault};
 use awari_heard::Silent;
 use awari_host::{Host, Purpose};

@@ -1,4 +1,4 @@
-use Rattle.awari_cli.proofs.FolderBuilds.{keeps_on, prints_on}
+use Rattle.awari_builds.proofs.FolderBuilds.{keeps_on, prints_on}
 use Rattle.awari_cli.proofs.writing.run_build_of.Goals as goal
 
 pub returns-then-build-clause-built : goal.returns-then-build-clause-built
