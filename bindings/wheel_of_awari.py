@@ -12,6 +12,7 @@ import gzip
 import hashlib
 import io
 import lzma
+import platform
 import re
 import tarfile
 import zipfile
@@ -20,7 +21,8 @@ from pathlib import Path
 HERE = Path(__file__).resolve().parent
 RELEASE = HERE.parent / "release"
 LIBRARY = "libawari.so.0"
-TAG = "py3-none-linux_x86_64"
+MACHINE = platform.machine()
+TAG = f"py3-none-linux_{MACHINE}"
 # what an sdist takes along beside the library and the license
 SOURCES = ("pyproject.toml", "wheel_of_awari.py", "awari.py", "awari.h")
 # git ignores this folder
@@ -39,10 +41,13 @@ def library():
     built = HERE / LIBRARY
     if built.exists():
         return built.read_bytes()
-    with lzma.open(RELEASE / "libawari-x86_64.tar.xz") as unpacked, tarfile.open(fileobj=unpacked) as files:
+    packed = RELEASE / f"libawari-{MACHINE}.tar.xz"
+    if not packed.exists():
+        raise SystemExit(f"no library is shipped for {platform.system()} on {MACHINE}: see README, \"Other machines\"")
+    with lzma.open(packed) as unpacked, tarfile.open(fileobj=unpacked) as files:
         shipped = files.extractfile(LIBRARY).read()
-    if hashlib.sha256(shipped).hexdigest() != manifest()["library"]:
-        raise SystemExit("release/libawari-x86_64.tar.xz is not the library that release/MANIFEST names")
+    if hashlib.sha256(shipped).hexdigest() != manifest()[f"library-{MACHINE}"]:
+        raise SystemExit(f"release/{packed.name} is not the library that release/MANIFEST names")
     return shipped
 
 

@@ -46,8 +46,8 @@ changed_sources() {
   } 2>/dev/null | grep -E '^(crates\.txt|crates/[^/]+/(src|specs|proofs)/.*)$' | head -n 3
 }
 
-# what the manifest says under this word: `program`, `library`, `archive`, `module`, `sources`, `toolchain`,
-# `linker`, `optimizer`
+# what the manifest says under this word: `program`, `library` and `archive`, each with its machine behind, `module`,
+# `sources`, `toolchain`, `linker`, `crossing`, `optimizer`
 manifest() { sed -n "s/^$1 //p" "$top/release/MANIFEST"; }
 
 # says it, but only to a person who looks on
@@ -61,9 +61,18 @@ fail() {
 # Expects this command to be here, or says in what it comes.
 needs() { command -v "$1" >/dev/null || fail "$1 is not here, and this wants it: it is in the package $2"; }
 
+# the machine whose program and library are taken, as their files name it
+machine() {
+  case $(uname -sm) in
+    "Linux x86_64") echo x86_64 ;;
+    "Linux aarch64") echo aarch64 ;;
+    *) fail "the program is for Linux on x86-64 and 64-bit ARM; README, \"Other machines\", says what works here" ;;
+  esac
+}
+
 # Expects a machine that runs what is shipped.
 expect_machine() {
-  [ "$(uname -sm)" = "Linux x86_64" ] || fail "the program is for x86-64 Linux; README, \"Other machines\", says what works here"
+  machine >/dev/null || exit
   needs sha256sum coreutils
 }
 
@@ -81,19 +90,22 @@ expect_shipped() {
   local file=$1 word=$2 from=$3
   if [ "$(sha256sum <"$file" | cut -c 1-64)" != "$(manifest "$word")" ]; then
     rm -f "$file"
-    fail "$from is not the $word that release/MANIFEST names"
+    fail "$from is not the ${word%-*} that release/MANIFEST names"
   fi
 }
 
-# unpacks the program that is shipped to this file, which stays only if it is the one that the manifest
-# names
+# unpacks the program that is shipped for this machine, or for the one that is named, to this file, which stays only if
+# it is the one that the manifest names
 unpack() {
+  local machine from
+  machine=${2-$(machine)} || exit
+  from=release/awari-$machine.xz
   needs xz xz-utils
-  if ! xz -dc "$top/release/awari-x86_64.xz" >"$1"; then
+  if ! xz -dc "$top/$from" >"$1"; then
     rm -f "$1"
-    fail "release/awari-x86_64.xz can't be unpacked by xz to $1"
+    fail "$from can't be unpacked by xz to $1"
   fi
-  expect_shipped "$1" program release/awari-x86_64.xz
+  expect_shipped "$1" "program-$machine" "$from"
 }
 
 # whether the system starts this program, whatever it answers
@@ -106,27 +118,31 @@ runs_here() {
 
 # the program that is shipped, unpacked into the folder for what is kept on its first use
 shipped() {
-  local kept=$1 name made
-  name=awari-$(manifest program)
+  local kept=$1 machine name made
+  machine=$(machine) || exit
+  name=awari-$(manifest "program-$machine")
   if [ ! -x "$kept/$name" ]; then
     made=$(mktemp "$kept/unpacked.XXXXXX")
     unpack "$made"
-    runs_here "$made" || { rm -f "$made" && fail "the shipped program does not run here: it wants x86-64 Linux with glibc 2.34 or later"; }
+    runs_here "$made" || { rm -f "$made" && fail "the shipped program does not run here: it wants Linux with glibc 2.34 or later"; }
     keep "$made" "$kept" "$name"
     tell "this is the shipped program, proved and built from ${2:-the sources here}; ./prove does so again"
   fi
   echo "$kept/$name"
 }
 
-# unpacks the library that is shipped into this folder: libawari.a and libawari.so.0
+# unpacks the library for this machine, or for the one that is named, into this folder: libawari.a and libawari.so.0
 unpack_library() {
+  local machine from
+  machine=${2-$(machine)} || exit
+  from=release/libawari-$machine.tar.xz
   needs xz xz-utils
   needs tar tar
-  if ! xz -dc "$top/release/libawari-x86_64.tar.xz" | tar -x -C "$1" libawari.a libawari.so.0; then
-    fail "release/libawari-x86_64.tar.xz can't be unpacked by xz and tar to $1"
+  if ! xz -dc "$top/$from" | tar -x -C "$1" libawari.a libawari.so.0; then
+    fail "$from can't be unpacked by xz and tar to $1"
   fi
-  expect_shipped "$1/libawari.a" archive release/libawari-x86_64.tar.xz
-  expect_shipped "$1/libawari.so.0" library release/libawari-x86_64.tar.xz
+  expect_shipped "$1/libawari.a" "archive-$machine" "$from"
+  expect_shipped "$1/libawari.so.0" "library-$machine" "$from"
 }
 
 # proves and builds one crate in this copy of the repository; what the build says is shown if it fails
@@ -152,12 +168,14 @@ build_library_in() {
   link_library "$1/crates/awari_exports/out/libawari_exports.a" "$2"
 }
 
-# Builds a static library of a crate by this toolchain, over the crates that a gate has just built in this copy.
-# It proves the crate itself; `rt lib` would prove those below it once more.
+# Builds a static library, or the object of a program, by this toolchain, over the crates that a gate has just built
+# in this copy. It proves the crate itself; `rt lib` would prove those below it once more. More words go to the compiler.
 build_gated() {
-  local copy=$1 crate=$2 toolchain=$3 to=$4 kit name log libraries=()
+  local copy=$1 crate=$2 toolchain=$3 to=$4 kit name log libraries=() root=(src/main.rt)
+  shift 4
   kit=$(dirname "$(rt doc)")
-  for name in std $(sed -n "s/^$crate staticlib: //p" "$copy/crates.txt"); do
+  ! grep -q "^$crate staticlib:" "$copy/crates.txt" || root=(--crate-type staticlib src/lib.rt)
+  for name in std $(sed -n "s/^$crate\( staticlib\)\{0,1\}: //p" "$copy/crates.txt"); do
     if [ -d "$copy/crates/$name" ]; then
       libraries+=(--extern "$name=$copy/crates/$name/out/rlib/$name.rlib" -L "dependency=$copy/crates/$name/out/rlib")
     else
@@ -166,8 +184,8 @@ build_gated() {
   done
   libraries+=(-L "dependency=$kit/rlibs" --antt-project "$kit/rattle/logic/antt-project.json" --logic-built "$kit/logic_built")
   log=$(mktemp)
-  if ! (cd "$copy/crates/$crate" && "$kit/bin/rattle" build --crate-name "$crate" --crate-type staticlib src/lib.rt "${libraries[@]}" \
-    --toolchain "$toolchain" --backend llvm --jobs 2 -o "$to") >"$log" 2>&1; then
+  if ! (cd "$copy/crates/$crate" && "$kit/bin/rattle" build --crate-name "$crate" "${root[@]}" "${libraries[@]}" \
+    --toolchain "$toolchain" --backend llvm --jobs 2 "$@" -o "$to") >"$log" 2>&1; then
     cat "$log" >&2
     rm -f "$log"
     fail "$crate could not be built"
@@ -184,16 +202,20 @@ build_gated_library_in() {
 # what links the shared library
 linker() { "${CC:-cc}" -Wl,--version 2>/dev/null | head -n 1; }
 
+# what compiles and links for 64-bit ARM
+crossing() { aarch64-linux-gnu-gcc --version 2>/dev/null | head -n 1; }
+
 # what makes the module's memory one of 32 bits
 optimizer() { wasm-opt --version 2>/dev/null; }
 
 # makes libawari.a and libawari.so.0 in a folder of what the toolchain built of `awari_exports`, and of the part
-# of the C library that the toolchain brings; of both a program sees the calls of awari.h, and no other name
+# of the C library that the toolchain brings, or of the archive that is named for it; of both a program sees the
+# calls of awari.h, and no other name
 link_library() {
-  local built=$1 to=$2 kit parts=$2/parts.a
-  kit=$(dirname "$(rt doc)")
+  local built=$1 to=$2 parts=$2/parts.a heap
+  heap=${3-$(dirname "$(rt doc)")/c/liblibc_c.a}
   rm -f "$parts"
-  printf '%s\n' "create $parts" "addlib $built" "addlib $kit/c/liblibc_c.a" save end | ar -M
+  printf '%s\n' "create $parts" "addlib $built" "addlib $heap" save end | ar -M
   printf '%s\n' '{ global: awari_*; local: *; };' >"$to/names"
   "${CC:-cc}" -shared -o "$to/libawari.so.0" -Wl,-soname,libawari.so.0 -Wl,--version-script="$to/names" \
     -Wl,--whole-archive "$parts" -Wl,--no-whole-archive
@@ -206,7 +228,7 @@ join_archive() {
   local parts=$1 archive=$2 object=${2%/*}/awari.o
   rm -f "$archive"
   "${CC:-cc}" -nostdlib -r -o "$object" -Wl,--whole-archive "$parts" -Wl,--no-whole-archive
-  objcopy --wildcard --keep-global-symbol='awari_*' "$object"
+  "${OBJCOPY:-objcopy}" --wildcard --keep-global-symbol='awari_*' "$object"
   ar rcsD "$archive" "$object"
   rm "$object"
 }
