@@ -2,7 +2,8 @@
 //!
 //! [`load`] makes a shelf of the files, and verifies each level. [`save`] gives a level its file, whole
 //! or not at all, at whatever moment the machine stops. A [`Folder`] is a trait, and [`HostFolder`] is
-//! one on disk. The tests have one in memory.
+//! one on disk. The tests have one in memory. A [`Candidate`] is a file that was read, and whose level is
+//! verified in parts by whoever has threads.
 //!
 //! Level 0 is saved and loaded again, in `crates/awari_file_tests/src/examples.rt`:
 //!
@@ -20,6 +21,7 @@
 #![tactic(auto)]
 
 mod calls;
+mod candidates;
 mod faults;
 mod host;
 mod keeping;
@@ -31,6 +33,7 @@ mod verifiers;
 mod words;
 
 pub use calls::{Draft, Folder, Refusal};
+pub use candidates::{Candidate, PARTS};
 pub use faults::FolderFault;
 pub use host::{HostDraft, HostFile, HostFolder, LockFault};
 pub use keeping::save_or_keep;

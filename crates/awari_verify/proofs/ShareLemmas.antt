@@ -1,11 +1,15 @@
 -- What several threads have looked at, put together.
 use Rattle.std.proofs.Common.{rules, ◌≡◌, ◌⊎◌, ℕ, ◌+◌, ◌<◌, Bool, true, false, List, replicate, set, get_or, inl, inr, ap, sym, ◌∙◌, arith}
 use Rattle.std.proofs.lemmas.Bool.{cases_lt, cases_eq}
-use Rattle.std.proofs.lemmas.List.{get_or-replicate, get_or-set_other}
+use Rattle.std.proofs.lemmas.List.{get_or-replicate, get_or-set_other, get_or_past, length-replicate}
 
 -- at first no piece is seen
-pub none_seen : (n i : ℕ) → i < n → get_or (replicate n false) i false ≡ true → ⊥
-none_seen n i lt seen = let never : false ≡ true = sym (get_or-replicate n i false false lt) ∙ seen in search rules
+pub none_seen : (n i : ℕ) → get_or (replicate n false) i false ≡ true → ⊥
+none_seen n i seen =
+    elim (cases_lt i n) [
+      | inl less ↦ let never : false ≡ true = sym (get_or-replicate n i false false less) ∙ seen in search rules
+      | inr past ↦ let never : false ≡ true = sym (get_or_past (replicate n false) i false (omega (arith, past, length-replicate n false))) ∙ seen in search rules
+    ]
 
 -- one piece more
 pub one_seen : (xs : List Bool) (i j : ℕ) → get_or (set xs i true) j false ≡ true → (get_or xs j false ≡ true) ⊎ (j ≡ i)

@@ -3,4 +3,5 @@ pub mod Rule
 pub mod FirstFailure
 pub mod VerifyFault
 pub mod Pieces
+pub mod Shares
 pub mod Older

@@ -1,4 +1,4 @@
--- A level in pieces. Private functions alone go by this: no public contract does.
+-- A level in pieces. Of public contracts only those of a share go by this: what they say together names no piece.
 use Rattle.std.specs.Prelude.{◌≡◌, true, false, slice_index_or, ℕ, ◌+◌, ◌*◌, ◌/◌, ◌%◌, ◌<◌, ◌≤◌, List, ◌++◌, sum, take, drop, Option, Some, None, MatchOption}
 use Rattle.awari_board.specs.Rules.{IsBoard, own_stones}
 use Rattle.awari_rank.specs.Fillings.{none}

@@ -3,7 +3,8 @@
 //!
 //! [`verify`] makes a level of an image that is right, and refuses any other. [`verify_parallel`]
 //! answers the same with the boards shared among threads. [`fault_of`] and [`fault_of_parallel`] leave
-//! the image with the caller. Only the calls that share boards take memory.
+//! the image with the caller. Only the calls that share boards take memory. A program with threads of
+//! its own gives each a [`Share`], joins these, and asks [`fault_by`].
 //!
 //! An image is verified and put on top of its shelf, in `crates/awari_check/src/checks.rt`:
 //!
@@ -36,5 +37,7 @@ mod verdicts;
 pub use laws::one_fault_is_due;
 pub use older::{one_old_fault_is_due, verify_old};
 pub use parallel::{fault_beside, fault_of_parallel, verify_parallel};
+pub use pieces::PIECES;
 pub use rules::{Rule, Seen, first_broken_rule};
-pub use verdicts::{VerifyFault, fault_of, verify};
+pub use shares::Share;
+pub use verdicts::{VerifyFault, fault_by, fault_of, verify};

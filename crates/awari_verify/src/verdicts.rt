@@ -5,12 +5,14 @@ ghost use Rattle.awari_faults.specs.Parts.{reason_said};
 ghost use Rattle.awari_rank.specs.Rank.{size_of};
 ghost use Rattle.awari_table.specs.Shelves.{Consistent, IsShelf};
 ghost use Rattle.awari_theory.specs.Truth.{TellsTruth};
+ghost use Rattle.awari_verify.specs.Shares.{IsShareOf};
 ghost use Rattle.awari_verify.specs.VerifyFault.{IsShaped, IsDue, IsFaultAfter, number_of, reason_of};
 ghost use Rattle.awari_verify.specs.declared.verdicts.VerifyFault.TheVariants.{Memory, Refused};
 
 use crate::pieces::first_refusal;
 use crate::rules::Rule;
 use crate::search::Refusal;
+use crate::shares::{Share, completed};
 use awari_faults::{Field, Fields, Reason, Value};
 use awari_rank::size;
 use awari_table::{HIGHEST_LEVEL, Image, Level, Shelf};
@@ -132,6 +134,22 @@ pub fn fault_of(shelf: &Shelf, image: &Image) -> Option<VerifyFault>
     }
 }
 
+/// What [`fault_of`] answers, if this was looked at of the image before. It looks at the other boards,
+/// whoever looked at these. Condition: the share is of this image over this shelf. It takes no memory.
+pub fn fault_by(shelf: &Shelf, image: &Image, share: &Share) -> Option<VerifyFault>
+    requires share { IsShareOf shelf.now image.now share.now }
+    // An image with no fault tells the truth, on the shelf: following the plans secures the value,
+    // soon, the value is what the board is worth, and the distance is the least.
+    ensures meaning { IsNone result → TellsTruth (shelf.now ++ image.now ∷ []) }
+    ensures none { IsNone result ↔ Consistent shelf.now image.now }
+    ensures fault { IfSome result (IsDue shelf.now image.now) }
+{
+    match boards_of(shelf, image) {
+        Ok(_) => fault_after(image, completed(shelf, image, share).refusal()),
+        Err(fault) => Some(fault),
+    }
+}
+
 /// The fault for this first refusal or, if there is none, for a limit that is not the greatest
 /// distance.
 pub fn fault_after(image: &Image, first: Option<Refusal>) -> Option<VerifyFault>
@@ -152,6 +170,7 @@ pub fn boards_of(shelf: &Shelf, image: &Image) -> Result<u32, VerifyFault>
     ensures ok { IfOk result (λ n. IsShaped shelf.now image.now × (n ≡ size_of image.now.level)) }
     ensures err { IfErr result (IsDue shelf.now image.now) }
     ensures early { IfErr result (λ fault. number_of fault < 22) }
+    ensures other { IfErr result (λ _. IsShaped shelf.now image.now → ⊥) }
     ensures shelf { IsShelf shelf.now }
 {
     if image.level != shelf.levels() || image.level > HIGHEST_LEVEL {
