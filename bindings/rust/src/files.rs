@@ -7,7 +7,7 @@ use std::io::ErrorKind;
 use std::os::unix::fs::OpenOptionsExt;
 use std::path::Path;
 
-/// A file is opened without waiting for whoever writes into a pipe. So it is named on x86-64 Linux.
+/// A file is opened without waiting for whoever writes into a pipe. So it is named on Linux.
 const O_NONBLOCK: i32 = 0o4000;
 /// The number of a file that is not read, or not mapped.
 pub(crate) const READ: u8 = 68;

@@ -21,7 +21,7 @@
 //! either kind. At `Levels` they wait for each other, and at `Mapped` they don't. `examples/engine.rs` is a search
 //! in eight threads.
 //!
-//! The library is `libawari.a`: see `build.rs` for where it is looked for. It runs on x86-64 Linux.
+//! The library is `libawari.a`: see `build.rs` for where it is looked for. It runs on Linux, on x86-64 and 64-bit ARM.
 
 mod boards;
 mod building;

@@ -19,7 +19,7 @@ extern "C" {
     fn munmap(place: *mut c_void, len: usize) -> c_int;
 }
 
-// So they are named on x86-64 Linux.
+// So they are named on Linux.
 const PROT_READ: c_int = 1;
 const MAP_PRIVATE: c_int = 2;
 const MAP_FAILED: *mut c_void = !0 as *mut c_void;
