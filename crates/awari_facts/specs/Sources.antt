@@ -32,7 +32,7 @@ SaysBy (Files levels) stands images = Says stands levels images
 
 -- Why the entry of a rank of a level is not read, by what has the name of the level's file: that of some rank from this one on is
 -- refused so. Levels in memory refuse none.
-abbrev pub IsUnreadFrom : Source → ℕ → Stands → FolderFault → Type 0
+abbrev pub IsUnreadFrom : Source → ℕ → ℕ → Option (Option (List ℕ)) → FolderFault → Type 0
 IsUnreadFrom (Memory levels) level rank known fault = ⊥
 IsUnreadFrom (Files levels) level rank known fault = IsFaultFrom level rank known fault
 
@@ -42,7 +42,7 @@ IsUnreadAt (Memory levels) stands board fault = ⊥
 IsUnreadAt (Files levels) stands board fault = IsRefusedAt stands board fault
 
 -- Why the limit of a level is not read, where it is known what has the name of the level's file. Levels in memory refuse none.
-abbrev pub IsLimitUnread : Source → Stands → FolderFault → Type 0
+abbrev pub IsLimitUnread : Source → ℕ → Option (Option (List ℕ)) → FolderFault → Type 0
 IsLimitUnread (Memory levels) level known fault = ⊥
 IsLimitUnread (Files levels) level known fault = (name : Option (List ℕ)) → known ≡ Some name → IsLimitFault level name fault
 

@@ -33,7 +33,7 @@ HasNoEntryAt place bytes = (place + 6 ≤ length bytes) × IsErr (entry_of (take
 
 -- Why six bytes at a place are not read as an entry, where it is known what has the name: 68 if there is no file, 60 if the file is too
 -- short, and 65 if the bytes are no entry. It is never another fault.
-abbrev pub IsPlaceFault : Stands → FileFault → Type 0
+abbrev pub IsPlaceFault : ℕ → Option (Option (List ℕ)) → FileFault → Type 0
 IsPlaceFault place known faults.Read = IfSome known (λ name. name ≡ None)
 IsPlaceFault place known faults.Truncated = IfSome known (λ name. IsSomeAnd name (IsShortAt place))
 IsPlaceFault place known faults.EntryForm = IfSome known (λ name. IsSomeAnd name (HasNoEntryAt place))
@@ -47,7 +47,7 @@ pub record IsFileFaultAt (level place : ℕ) (known : Option (Option (List ℕ))
 
 -- Why the entry of a rank of a level is not read: 82 of this level, or 84, or 81 of this level for what has its name. It is never
 -- another refusal.
-abbrev pub IsEntryFault : ℕ → Stands → FolderFault → Type 0
+abbrev pub IsEntryFault : ℕ → ℕ → Option (Option (List ℕ)) → FolderFault → Type 0
 IsEntryFault level rank known (Open n) = n ≡ level
 IsEntryFault level rank known Memory = ⊤
 IsEntryFault level rank known (File n fault) = (n ≡ level) × IsPlaceFault (entry_place rank) known fault
