@@ -193,10 +193,28 @@ build_gated() {
   rm -f "$log"
 }
 
-# the same of the library for C, linked into a folder
-build_gated_library_in() {
-  build_gated "$1" awari_exports "$(dirname "$(rt doc)")/toolchain" "$2/libawari_exports.a"
-  link_library "$2/libawari_exports.a" "$2"
+# the same of `awari_exports`, into a folder: libawari_exports.a, and module.bc, which the toolchain's clang was given
+build_exports() {
+  local copy=$1 to=$2 kit each
+  kit=$(dirname "$(rt doc)")
+  mkdir -p "$to/toolchain/bin"
+  ln -s "$kit/toolchain/lib" "$to/toolchain/lib"
+  for each in "$kit"/toolchain/bin/*; do
+    case ${each##*/} in
+      clang | ld.lld | llvm-ar)
+        cat >"$to/toolchain/bin/${each##*/}" <<END
+#!/usr/bin/env bash
+for it; do case \$it in *.bc) cp "\$it" "$to/module.bc" ;; esac; done
+exec -a ${each##*/} "$kit/toolchain/bin/clang" "\$@"
+END
+        chmod 755 "$to/toolchain/bin/${each##*/}"
+        ;;
+      *) ln -s "$each" "$to/toolchain/bin/" ;;
+    esac
+  done
+  build_gated "$copy" awari_exports "$to/toolchain" "$to/libawari_exports.a"
+  rm -r "$to/toolchain"
+  [ -e "$to/module.bc" ] || fail "the toolchain gave its clang no module of awari_exports"
 }
 
 # what links the shared library
