@@ -3,7 +3,7 @@
 //! a writer that is lent to it, and gives the status that the program ends with. [`run_serve_unverified`]
 //! answers many such requests by what the files say, read where they lie.
 //!
-//! What the levels in a folder say of a board, printed, in `crates/awari_cli_tests/src/plain.rt`:
+//! What the levels in a folder say of a board, printed, in `crates/awari_command_tests/src/plain.rt`:
 //!
 //!     pub(crate) fn asked(
 //!         rt: &(impl AllocGlobal + Threads + Clock + Wait + Sync + Send + Clone + Drop + 'static),

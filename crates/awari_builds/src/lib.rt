@@ -3,7 +3,7 @@
 //!
 //! The crate stands beside those of the commands that read, so both are proved at once.
 //!
-//! Levels are built up to `top` in a folder in memory, in `crates/awari_cli_tests/src/plain.rt`:
+//! Levels are built up to `top` in a folder in memory, in `crates/awari_command_tests/src/plain.rt`:
 //!
 //!     fn build_to(
 //!         rt: &(impl AllocGlobal + Threads + Clock + Wait + Sync + Send + Clone + Drop + 'static),

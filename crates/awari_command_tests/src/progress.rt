@@ -2,7 +2,7 @@
 
 use crate::expect::expect_equal;
 use crate::plain::build_telling;
-use awari_cli::{BuildProgress, HowTold, ProgressLines};
+use awari_builds::{BuildProgress, HowTold, ProgressLines};
 use awari_heard::{Progress, Stage};
 use std::process::Abort;
 use std::sync::Wait;

@@ -1,11 +1,11 @@
 //! The command `serve` beside its builder, and how what is answered and printed comes to its stream.
 
-use crate::commands::Broken;
+use crate::broken::Broken;
 use crate::expect::expect_equal;
 use crate::plain::{
     all_listed, build, lined, listed, memory_folder, served, texted, verified, weighed,
 };
-use awari_cli::Remarks;
+use awari_answers::Remarks;
 use awari_file_tests::MemoryFolder;
 use std::alloc::Global;
 use std::cell::Cell;

@@ -1,10 +1,10 @@
 //! The service over files that nobody verified.
 
+use crate::broken::Broken;
 use crate::calls::{lay, two_files};
-use crate::commands::Broken;
 use crate::expect::expect_equal;
 use crate::plain::{memory_folder, refuse, served_said};
-use awari_cli::{Remarks, Streams};
+use awari_answers::{Remarks, Streams};
 use awari_file_tests::MemoryFolder;
 use awari_folder::{Folder, HostFolder};
 use std::alloc::Global;

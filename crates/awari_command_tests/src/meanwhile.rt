@@ -4,7 +4,7 @@ ghost use Rattle.std.specs.Prelude.{⊤};
 
 use crate::expect::expect_equal;
 use crate::plain::{build_by, memory_folder, refuse};
-use awari_cli::BuildProgress;
+use awari_builds::BuildProgress;
 use awari_file_tests::MemoryFolder;
 use awari_heard::{Progress, Stage};
 use std::process::Abort;

@@ -2,8 +2,8 @@
 
 use crate::expect::expect_equal;
 use crate::plain::{build, memory_folder, refuse, verified_as};
-use awari_cli::VerifyQuery;
 use awari_file_tests::MemoryFolder;
+use awari_queries::VerifyQuery;
 use std::process::Abort;
 use std::str;
 use std::sync::Wait;
