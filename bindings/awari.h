@@ -1,5 +1,5 @@
-/* Awari's endgame levels in a program. Link with libawari.a or libawari.so, which `bindings/make` builds. This
- * header is for C99 and C++11, and later.
+/* Awari's endgame levels in a program. Link with libawari.a or libawari.so, which `bindings/make` builds, or on any
+ * machine with bindings/portable. This header is for C99 and C++11, and later.
  *
  * What an engine calls: awari_open once, awari_share for each thread, awari_probe_value in the search,
  * awari_probe_moves at the root, and awari_close. The module for pages has all calls but those under "Folders".
@@ -15,9 +15,9 @@
  *
  * Threads: nothing is global, and no call waits, reads a file or starts a thread. Calls may run at once if
  * no two of them have the same handle. Not even two look-ups may, since each takes the levels out of the
- * handle and puts them back. `awari_share` makes a handle for each thread, and copies no level; such
- * handles may be used at once, and closed in any order. In mapped files any number of threads may look up
- * at once, without a handle.
+ * handle and puts them back. `awari_share` makes a handle for each thread, and copies no level (but in
+ * bindings/portable it does); such handles may be used at once, and closed in any order. In mapped files any number
+ * of threads may look up at once, without a handle.
  *
  * A mapped file that is cut off meanwhile ends the process by SIGBUS. `awari build` never cuts one off: it puts a
  * new file in the place of the old one.
@@ -273,18 +273,22 @@ void awari_unmap(awari_files *files);
 #ifdef __cplusplus
 }
 #define AWARI_IS(what) static_assert(what, #what)
-#else
+#elif defined __STDC_VERSION__ && __STDC_VERSION__ >= 201112L
 #define AWARI_IS(what) _Static_assert(what, #what)
+#else
+#define AWARI_IS(what) extern char awari_is[(what) ? 1 : -1]
 #endif
-/* The library has the same structs. */
+/* The library has the same structs. With pointers of 32 bits there is the one of bindings/portable alone. */
+#if UINTPTR_MAX > 0xffffffff
 AWARI_IS(sizeof(awari_handle) == 16 && offsetof(awari_handle, open) == 8);
+AWARI_IS(sizeof(awari_file) == 16 && sizeof(awari_sentence) == 16);
+AWARI_IS(sizeof(awari_draft) == 16 && offsetof(awari_draft, gain) == 8 && offsetof(awari_draft, settled) == 9);
+#endif
 AWARI_IS(sizeof(awari_entry) == 8 && offsetof(awari_entry, plan) == 1 && offsetof(awari_entry, distance) == 4);
 AWARI_IS(sizeof(awari_move) == 8 && offsetof(awari_move, captures) == 1 && offsetof(awari_move, value) == 2);
 AWARI_IS(offsetof(awari_move, distance) == 4);
 AWARI_IS(sizeof(awari_fault) == 8 && offsetof(awari_fault, inner) == 1 && offsetof(awari_fault, rule) == 2);
 AWARI_IS(offsetof(awari_fault, rank) == 4);
-AWARI_IS(sizeof(awari_file) == 16 && sizeof(awari_sentence) == 16);
-AWARI_IS(sizeof(awari_draft) == 16 && offsetof(awari_draft, gain) == 8 && offsetof(awari_draft, settled) == 9);
 AWARI_IS(sizeof(awari_level_counts) == 16 && offsetof(awari_level_counts, limit) == 12);
 #undef AWARI_IS
 #endif
