@@ -157,7 +157,7 @@ version_again v l m s below rest known byte low small lt len fits =
     (field_again ℕ 2 (number_if w16 is_version faults.Version) (to_be_bytes w16) (λ n. (n < 2 ^ 16) × (is_version n ≡ true)) version_spells s v ((l ∷ []) ++ ((0 ∷ []) ++ (to_be_bytes w64 (size_of l) ++ (to_be_bytes w32 m ++ (below ++ rest))))) (version-fits v known, version-is v known))
     ∙ level_again v l m s below rest byte low small lt len fits
 
-header_again : (h : Header) (s : FileFault) (rest : List ℕ) → FitsHeader h → size_of h.level < 2 ^ 64 → header_at s (text_of h ++ rest) ≡ Ok (h, rest)
+pub header_again : (h : Header) (s : FileFault) (rest : List ℕ) → FitsHeader h → size_of h.level < 2 ^ 64 → header_at s (text_of h ++ rest) ≡ Ok (h, rest)
 unfolding header_at
 header_again h s rest fits small =
     let byte : h.level < 256 = omega (arith, low_in h.version h.level fits.level) in

@@ -1,6 +1,7 @@
 -- The file that is to be next, and why it is not.
-use Rattle.std.proofs.Common.{◌≡◌, ◌≢◌, ◌∙◌, ◌⊎◌, ◌<◌, List, [], ℕ, Option, Some, None, Result, Ok, Err, ap, arith, inl, inr, length, min, subst, sym, take}
+use Rattle.std.proofs.Common.{◌≡◌, ◌≢◌, ◌∙◌, ◌⊎◌, ◌<◌, List, [], ℕ, Option, Some, None, Result, Ok, Err, ◌++◌, ap, append_assoc, arith, inl, inr, length, min, subst, sym, take}
 use Rattle.std.specs.Prelude.{◌≤◌, ◌-◌, IfErr, IfOk, IfSome, IsSomeAnd, MatchResult, ⊤}
+use Rattle.std.specs.List.{flat_map}
 use Rattle.awari_rank.specs.Rank.{size_of}
 use Rattle.awari_table.specs.declared.images.Entry.{Entry}
 use Rattle.awari_table.specs.declared.images.Image.{Image}
@@ -17,10 +18,11 @@ use Rattle.awari_file.specs.Sealing.{IsUnsealed, Seals, Stops, Tells, TellsBehin
 use Rattle.awari_file.specs.Source.{BeginsRight}
 use Rattle.awari_file.proofs.FieldLaws.{bind_ok}
 use Rattle.awari_file.proofs.Loop.{nothing_yet, ok_from, some_right}
-use Rattle.awari_file.specs.FileText.{IsFileOf, found_of}
+use Rattle.awari_file.specs.FileText.{IsFileOf, body_text, entry_text, found_of, header_text}
 use Rattle.awari_file.proofs.Sealed.{image_read, seal_stops, sealed_is}
 use Rattle.awari_file.proofs.WholeLaws.{loaded_of}
-use Rattle.awari_file.proofs.WholeSpell.{file_again, low_in, size_small}
+use Rattle.awari_file.proofs.EntryLaws.{entries_again}
+use Rattle.awari_file.proofs.WholeSpell.{FitsHeader, file_again, header_again, low_in, size_small}
 use Rattle.awari_folder.specs.declared.faults.FolderFault.{FolderFault}
 use Rattle.awari_folder.specs.declared.faults.FolderFault.TheVariants.{Below, File, Open, Verify, Memory, Occupied, Old}
 use Rattle.awari_folder.specs.NextFile.{IsFileFault, IsNextFile}
@@ -63,6 +65,22 @@ begins_whole bytes found is =
 
 pub begins_sealed : (file : Unsealed) (bytes : List ℕ) (known : Option (List ℕ)) → IsUnsealed file bytes known → Seals {X = ⊤} file (Ok tt) → BeginsRight bytes
 begins_sealed file bytes known found sealed = begins_whole bytes file.loaded (image_read (Some bytes) known file found sealed)
+
+-- the same of one that is read, whatever comes behind its entries
+pub begins_read : (file : Unsealed) (bytes : List ℕ) (known : Option (List ℕ)) → IsUnsealed file bytes known → BeginsRight bytes
+begins_read file bytes known is =
+    let found = file.loaded in
+    let h : Header = record { version = found.version; level = found.image.level; limit = found.image.limit; below = found.below } in
+    let fits : FitsHeader h = record { version = is.has.known; level = is.has.low; limit = is.has.limit; below = is.has.whole; bytes = is.has.bytes } in
+    let es = flat_map entry_text found.image.entries in
+    let n = size_of found.image.level in
+    let header : header_at Truncated (body_text found.version found.image found.below ++ is.left) ≡ Ok (h, es ++ is.left)
+    = ap (header_at Truncated) (append_assoc (header_text found.version found.image.level found.image.limit found.below) es is.left)
+    ∙ header_again h Truncated (es ++ is.left) fits (size_small found.image.level (low_in found.version found.image.level is.has.low)) in
+    let entries : entries_at n Truncated (es ++ is.left) ≡ Ok (found.image.entries, is.left)
+    = subst (λ (m : ℕ). entries_at m Truncated (es ++ is.left) ≡ Ok (found.image.entries, is.left)) is.has.sized (entries_again found.image.entries Truncated is.left is.has.entries) in
+    subst BeginsRight (sym is.parts)
+    (h, es ++ is.left, header, some_right [] n n (min n 680) Truncated (es ++ is.left) n (es ++ is.left) (omega arith) (omega arith) (omega arith) (nothing_yet n Truncated (es ++ is.left)) (ok_from (entries_at n Truncated (es ++ is.left)) (found.image.entries, is.left) entries))
 
 -- ---- a file that is misplaced
 

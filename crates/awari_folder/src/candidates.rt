@@ -185,18 +185,12 @@ impl Stored {
         };
         place(&file, level, OLD_VERSION + 1, &self.digest)?;
         let share = Share::none(&file.loaded.image);
-        match Arc::new(alloc, file) {
-            Ok(file) => Ok(Candidate {
-                file,
-                sealed: false,
-                share,
-            }),
-            // 84 is told of a file that is sealed alone.
-            Err(lack) => match lack.value.seal() {
-                Ok(()) => Err(FolderFault::Memory),
-                Err(fault) => Err(FolderFault::File { level, fault }),
-            },
-        }
+        let file = Arc::new(alloc, file)?;
+        Ok(Candidate {
+            file,
+            sealed: false,
+            share,
+        })
     }
 
     /// Puts the candidate's level on top, if its file is sealed and the level is right over those below.
