@@ -457,3 +457,7 @@ export class Levels {
     return new DataView(this.#calls.memory.buffer, Number(this.#out), length);
   }
 }
+
+// `node bindings/awari.mjs COMMAND ..` is the program in brief. A page starts no script.
+if (globalThis.process?.argv?.[1]?.endsWith("awari.mjs"))
+  import("./node/program.mjs").then(({ start }) => start(import.meta.url));
