@@ -1,22 +1,24 @@
 -- The boards of a level in a table of two numbers, one by one.
-use Rattle.std.proofs.Common.{◌≡◌, ℕ, ◌+◌, ◌*◌, ◌==◌, ◌<◌, ◌≤◌, Bool, true, false, ◌&&◌, cond, List, [], ◌∷◌, ◌++◌, length, take, get_or, set, count_by, Option, Some, None, slice_get, ℤ, pos, ◌-ℤ◌, refl, sym, ◌∙◌, ap, subst, inl, inr, arith}
+use Rattle.std.proofs.Common.{◌≡◌, ℕ, ◌+◌, ◌*◌, ◌==◌, ◌<◌, ◌≤◌, Bool, true, false, ◌&&◌, List, [], ◌∷◌, ◌++◌, length, take, get_or, set, count_by, Option, Some, None, slice_get, ℤ, pos, ◌-ℤ◌, refl, sym, ◌∙◌, ap, subst, inl, inr, arith}
 use Rattle.std.proofs.Math.Nat.{mul-le-mul_right}
 use Rattle.std.proofs.lemmas.Bool.{cases_lt, false≢true}
 use Rattle.std.proofs.lemmas.Bool.Decides.{nat_tests}
 use Rattle.std.proofs.lemmas.Int.{ints}
 use Rattle.std.proofs.lemmas.List.{take_all}
+use Rattle.std.proofs.lemmas.List.Elements.{All-nil, All-push}
 use Rattle.std.specs.Ordering.{int_eq}
 use Rattle.std.specs.Prelude.{IfSome, IsNone}
 use Rattle.awari_facts.specs.Numbers.{IsAt, number_in}
+use Rattle.awari_queries.specs.declared.columns.Column.{Column}
 use Rattle.awari_rank.specs.Rank.{size_of}
 use Rattle.awari_rank.specs.Tuples.{tuples}
 use Rattle.awari_table.proofs.ShelfLemmas.{take-read}
 use Rattle.awari_table.specs.declared.images.Entry.{Entry}
 use Rattle.awari_table.specs.declared.images.Image.{Image}
-use Rattle.awari_counts.proofs.KeyLaws.{counted-push, get_or-set-cases}
+use Rattle.awari_counts.proofs.KeyLaws.{HasKey, counted-push}
 use Rattle.awari_counts.specs.Pairs.{has_pair}
 use Rattle.awari_counts.specs.Ranges.{below_of, number_at}
-use Rattle.awari_counts.specs.Tables.{AreTabled, AreTabledTo, CountsSegment, HasCell, HasNoCell, IsCell, IsCellAt, IsCellOf, cells_of, columns_of, rows_of}
+use Rattle.awari_counts.specs.Tables.{AreTabled, AreTabledTo, CountsSegment, HasCell, HasNoCell, IsCell, IsCellAt, IsCellOf, IsPlaced, cells_of, columns_of, rows_of}
 use Rattle.awari_counts.specs.declared.cells.Start.{Start}
 use Rattle.awari_counts.specs.declared.tables.CellTable.{CellTable}
 
@@ -62,6 +64,18 @@ cell-key w a i b j inside other = go (a == i) refl
 pub number-key : (b j k : ℕ) → int_eq (pos j -ℤ pos b) (pos k -ℤ pos b) ≡ (j == k)
 number-key b j k = grind (arith, ints, nat_tests)
 
+-- the board has the number at a place
+abbrev pub has_number : List Image → Column → ℕ → List ℕ → Bool
+has_number images column k board = int_eq (number_in images column board) (number_at column k)
+
+-- it has one of these
+pub placed-at : (images : List Image) (column : Column) (n place : ℕ) (board : List ℕ) → place < n → number_in images column board ≡ number_at column place → HasKey (has_number images column) n board
+placed-at images column n place board inside is = record {
+  key = place;
+  below = inside;
+  is = λ k. ap (λ m. int_eq m (number_at column k)) is ∙ number-key (below_of column) place k;
+}
+
 -- a board has the numbers of a cell where that is its own
 pair-key : (images : List Image) (table : CellTable) (board : List ℕ) (cell i j : ℕ) → IsCellOf images table board cell → j < columns_of table
     → has_pair images table.pair.first table.pair.second (number_at table.pair.first i) (number_at table.pair.second j) board ≡ (cell == i * columns_of table + j)
@@ -87,26 +101,9 @@ none-own images table board first second one other none cell own =
 
 -- ---- one board more
 
--- no number is above that of the boards
-pub few-more : (counts next : List ℕ) (cell most : ℕ) → cell < length counts → next ≡ set counts cell (get_or counts cell 0 + 1) → ((k : ℕ) → get_or counts k 0 ≤ most) → (k : ℕ) → get_or next k 0 ≤ most + 1
-few-more counts next cell most inside is few k = subst (λ n. n ≤ most + 1) (sym (ap (λ xs. get_or xs k 0) is ∙ get_or-set-cases counts cell k (get_or counts cell 0 + 1) inside)) (go (cell == k))
-  where
-    go : (b : Bool) → cond b (get_or counts cell 0 + 1) (get_or counts k 0) ≤ most + 1
-    go true = omega (arith, few cell)
-    go false = omega (arith, few k)
-
--- one more at most, in each cell
-pub one-more : (counts next : List ℕ) (cell : ℕ) → cell < length counts → next ≡ set counts cell (get_or counts cell 0 + 1) → (k : ℕ) → get_or next k 0 ≤ get_or counts k 0 + 1
-one-more counts next cell inside is k =
-    subst (λ n. n ≤ get_or counts k 0 + 1) (sym (ap (λ xs. get_or xs k 0) is ∙ get_or-set-cases counts cell k (get_or counts cell 0 + 1) inside)) (go (cell == k) refl)
-  where
-    go : (b : Bool) → (cell == k) ≡ b → cond b (get_or counts cell 0 + 1) (get_or counts k 0) ≤ get_or counts k 0 + 1
-    go true same = let is : cell ≡ k = alike cell k same in omega (arith, ap (λ i. get_or counts i 0) is)
-    go false other = omega arith
-
 tabled-push : (images : List Image) (table : CellTable) (boards : List (List ℕ)) (board : List ℕ) (counts next : List ℕ) (cell : ℕ) → AreTabled images table boards counts → IsCellOf images table board cell
     → cell < length counts → next ≡ set counts cell (get_or counts cell 0 + 1) → AreTabled images table (boards ++ board ∷ []) next
-tabled-push images table boards board counts next cell are own inside is = record { each = each }
+tabled-push images table boards board counts next cell are own inside is = record { placed = All-push (IsPlaced images table) boards board are.placed (cell, own); each = each }
   where
     test : ℕ → ℕ → List ℕ → Bool
     test i j = has_pair images table.pair.first table.pair.second (number_at table.pair.first i) (number_at table.pair.second j)
@@ -118,7 +115,7 @@ tabled-push images table boards board counts next cell are own inside is = recor
 -- ---- the boards of a level by rank
 
 pub tabled-none : (images : List Image) (table : CellTable) (counts : List ℕ) → ((k : ℕ) → get_or counts k 0 ≡ 0) → AreTabledTo images table 0 counts
-tabled-none images table counts zeros = record { each = λ i j row column. zeros (i * columns_of table + j) }
+tabled-none images table counts zeros = record { placed = All-nil (IsPlaced images table); each = λ i j row column. zeros (i * columns_of table + j) }
 
 pub tabled-more : (images : List Image) (table : CellTable) (rank : ℕ) (board : List ℕ) (counts next : List ℕ) (cell : ℕ) → AreTabledTo images table rank counts → slice_get (tuples 12 table.level) rank ≡ Some board
     → IsCellOf images table board cell → cell < length counts → next ≡ set counts cell (get_or counts cell 0 + 1) → AreTabledTo images table (rank + 1) next

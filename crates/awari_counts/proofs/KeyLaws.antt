@@ -3,7 +3,7 @@ use Rattle.std.proofs.Common.{◌≡◌, ℕ, zero, suc, ◌+◌, ◌==◌, ◌&
 use Rattle.std.proofs.lemmas.Bool.{cases_lt}
 use Rattle.std.proofs.lemmas.Bool.Decides.{nat_tests}
 use Rattle.std.proofs.lemmas.List.{get_or-set_other, get_or-set_same}
-use Rattle.std.proofs.lemmas.List.Elements.{All-head, All-tail}
+use Rattle.std.proofs.lemmas.List.Elements.{All-head, All-tail, All-weaker}
 use Rattle.std.proofs.lemmas.List.Sums.{sum_by-append, sum_by-cons}
 use Rattle.awari_rank.proofs.Counting.{total_same}
 use Rattle.awari_rank.specs.Tuples.{total}
@@ -20,7 +20,7 @@ get_or-set-cases xs j k v inside = go (j == k) refl
         ap (λ i. get_or (set xs j v) i 0) same ∙ get_or-set_same xs j v 0 inside
     go false e = get_or-set_other xs j k v 0 (λ same. grind (arith, nat_tests))
 
-pub count_by-push : {A : Type 0} (p : A → Bool) (xs : List A) (x : A) → count_by p (xs ++ x ∷ []) ≡ count_by p xs + cond (p x) 1 0
+count_by-push : {A : Type 0} (p : A → Bool) (xs : List A) (x : A) → count_by p (xs ++ x ∷ []) ≡ count_by p xs + cond (p x) 1 0
 count_by-push p xs x = omega (arith, sum_by-append (λ y. cond (p y) 1 0) xs (x ∷ []), sum_by-cons (λ y. cond (p y) 1 0) x [])
 
 -- what stands at key k once something of key j is counted, if the test is whether k is its key
@@ -35,6 +35,9 @@ counted-push p xs x counts next j k inside is key before =
         ap (λ i. get_or counts i 0 + 1) equal ∙ ap (λ m. m + 1) before
     add false same = omega (arith, before)
 
+abbrev pub one_if : Bool → ℕ
+one_if b = cond b 1 0
+
 -- ---- the greatest distance
 
 above_start : (g : Entry → ℕ) (xs : List Entry) (a : ℕ) → a ≤ fold (λ most x. max most (g x)) a xs
@@ -48,6 +51,27 @@ above_each g (x ∷ xs) a zero e here =
     omega (arith, above_start g xs (max a (g x)), ap g same)
 above_each g (x ∷ xs) a (suc k) e here = above_each g xs (max a (g x)) k e here
 
+most_above : (g : Entry → ℕ) (xs : List Entry) (a m : ℕ) → a ≤ m → All (λ x. g x ≤ m) xs → fold (λ most x. max most (g x)) a xs ≤ m
+most_above g [] a m low each = low
+most_above g (x ∷ xs) a m low each =
+    let here : g x ≤ m = All-head (λ y. g y ≤ m) x xs each in
+    most_above g xs (max a (g x)) m (omega (arith, low, here)) (All-tail (λ y. g y ≤ m) x xs each)
+
+-- one of them is this great
+one_found : (g : Entry → ℕ) (xs : List Entry) (a m : ℕ) → 0 < count_by (λ x. g x == m) xs → m ≤ fold (λ most x. max most (g x)) a xs
+one_found g [] a m some = absurd (omega (arith, some))
+one_found g (x ∷ xs) a m some = go (g x == m) refl (λ later. one_found g xs (max a (g x)) m later)
+  where
+    go : (b : Bool) → (g x == m) ≡ b → (0 < count_by (λ y. g y == m) xs → m ≤ fold (λ most y. max most (g y)) (max a (g x)) xs) → m ≤ fold (λ most y. max most (g y)) (max a (g x)) xs
+    go true same next =
+        let equal : g x ≡ m = grind (arith, nat_tests) in
+        omega (arith, above_start g xs (max a (g x)), equal)
+    go false other next = next (omega (arith, some, sum_by-cons (λ y. one_if (g y == m)) x xs, ap one_if other))
+
+-- the greatest is one that some have and that none is above
+pub greatest_is : (g : Entry → ℕ) (xs : List Entry) (m : ℕ) → All (λ x. g x ≤ m) xs → 0 < count_by (λ x. g x == m) xs → m ≡ fold (λ most x. max most (g x)) 0 xs
+greatest_is g xs m each some = omega (arith, most_above g xs 0 m (omega arith) each, one_found g xs 0 m some)
+
 -- ---- sums
 
 total-plus : (f g : ℕ → ℕ) (n : ℕ) → total (λ k. f k + g k) n ≡ total f n + total g n
@@ -55,15 +79,12 @@ unfolding total
 total-plus f g zero = refl
 total-plus f g (suc n) = omega (arith, total-plus f g n)
 
-total-zeros : (f : ℕ → ℕ) (n : ℕ) → ((k : ℕ) → k < n → f k ≡ 0) → total f n ≡ 0
+pub total-zeros : (f : ℕ → ℕ) (n : ℕ) → ((k : ℕ) → k < n → f k ≡ 0) → total f n ≡ 0
 unfolding total
 total-zeros f zero zeros = refl
 total-zeros f (suc n) zeros = omega (arith, total-zeros f n (λ k below. zeros k (omega (arith, below))), zeros n (omega arith))
 
-abbrev pub one_if : Bool → ℕ
-one_if b = cond b 1 0
-
-one-key : (j n : ℕ) → j < n → total (λ k. one_if (j == k)) n ≡ 1
+pub one-key : (j n : ℕ) → j < n → total (λ k. one_if (j == k)) n ≡ 1
 unfolding total
 one-key j zero below = absurd (omega (arith, below))
 one-key j (suc n) below = elim (cases_lt j n) [
@@ -89,16 +110,35 @@ both-each : {A : Type 0} (t : Bool) (test : ℕ → A → Bool) (n : ℕ) (x : A
 both-each true test n x keyed = one-each test n x keyed
 both-each false test n x keyed = total-zeros (λ k. one_if (false && test k x)) n (λ k below. refl)
 
+each-both : {A : Type 0} (t : Bool) (test : ℕ → A → Bool) (n : ℕ) (x : A) → HasKey test n x → total (λ k. one_if (test k x && t)) n ≡ one_if t
+each-both true test n x keyed = total_same (λ k. one_if (test k x && true)) (λ k. one_if (test k x)) n (λ k below. ap one_if (and-true (test k x))) ∙ one-each test n x keyed
+  where
+    and-true : (b : Bool) → (b && true) ≡ b
+    and-true true = refl
+    and-true false = refl
+each-both false test n x keyed = total-zeros (λ k. one_if (test k x && false)) n (λ k below. ap one_if (and-false (test k x)))
+  where
+    and-false : (b : Bool) → (b && false) ≡ false
+    and-false true = refl
+    and-false false = refl
+
+-- those that pass, where each passes as one of n tests does
+pub total-each : {A : Type 0} (p : A → Bool) (tests : ℕ → A → Bool) (n : ℕ) (xs : List A) → All (λ x. total (λ k. one_if (tests k x)) n ≡ one_if (p x)) xs → total (λ k. count_by (tests k) xs) n ≡ count_by p xs
+total-each p tests n [] each = total-zeros (λ k. count_by (tests k) []) n (λ k below. refl)
+total-each p tests n (x ∷ xs) each =
+    let one : total (λ k. one_if (tests k x)) n ≡ one_if (p x) = All-head (λ y. total (λ k. one_if (tests k y)) n ≡ one_if (p y)) x xs each in
+    let rest = total-each p tests n xs (All-tail (λ y. total (λ k. one_if (tests k y)) n ≡ one_if (p y)) x xs each) in
+    let split : total (λ k. count_by (tests k) (x ∷ xs)) n ≡ total (λ k. one_if (tests k x)) n + total (λ k. count_by (tests k) xs) n =
+    total_same (λ k. count_by (tests k) (x ∷ xs)) (λ k. one_if (tests k x) + count_by (tests k) xs) n (λ k below. sum_by-cons (λ y. one_if (tests k y)) x xs)
+    ∙ total-plus (λ k. one_if (tests k x)) (λ k. count_by (tests k) xs) n in
+    omega (arith, split, one, rest, sum_by-cons (λ y. one_if (p y)) x xs)
+
 -- those that pass, by a test that each passes at one key
 pub total-both : {A : Type 0} (p : A → Bool) (test : ℕ → A → Bool) (n : ℕ) (xs : List A) → All (HasKey test n) xs → total (λ k. count_by (λ x. p x && test k x) xs) n ≡ count_by p xs
-total-both p test n [] keyed = total-zeros (λ k. count_by (λ x. p x && test k x) []) n (λ k below. refl)
-total-both p test n (x ∷ xs) keyed =
-    let one = both-each (p x) test n x (All-head (HasKey test n) x xs keyed) in
-    let rest = total-both p test n xs (All-tail (HasKey test n) x xs keyed) in
-    let split : total (λ k. count_by (λ y. p y && test k y) (x ∷ xs)) n ≡ total (λ k. one_if (p x && test k x)) n + total (λ k. count_by (λ y. p y && test k y) xs) n =
-    total_same (λ k. count_by (λ y. p y && test k y) (x ∷ xs)) (λ k. one_if (p x && test k x) + count_by (λ y. p y && test k y) xs) n (λ k below. sum_by-cons (λ y. one_if (p y && test k y)) x xs)
-    ∙ total-plus (λ k. one_if (p x && test k x)) (λ k. count_by (λ y. p y && test k y) xs) n in
-    omega (arith, split, one, rest, sum_by-cons (λ y. one_if (p y)) x xs)
+total-both p test n xs keyed = total-each p (λ k x. p x && test k x) n xs (All-weaker (HasKey test n) (λ x. total (λ k. one_if (p x && test k x)) n ≡ one_if (p x)) (λ x has. both-each (p x) test n x has) xs keyed)
+
+pub total-swapped : {A : Type 0} (p : A → Bool) (test : ℕ → A → Bool) (n : ℕ) (xs : List A) → All (HasKey test n) xs → total (λ k. count_by (λ x. test k x && p x) xs) n ≡ count_by p xs
+total-swapped p test n xs keyed = total-each p (λ k x. test k x && p x) n xs (All-weaker (HasKey test n) (λ x. total (λ k. one_if (test k x && p x)) n ≡ one_if (p x)) (λ x has. each-both (p x) test n x has) xs keyed)
 
 -- all of them
 all-counted : {A : Type 0} (xs : List A) → count_by (λ x. true) xs ≡ length xs

@@ -1,7 +1,10 @@
 mod CellLaws
 mod CountLaws
 mod KeyLaws
+mod LaneLaws
 mod LineLaws
 mod PairLaws
+mod ShareLaws
 mod SizeLaws
+mod SumLaws
 mod TallyLaws

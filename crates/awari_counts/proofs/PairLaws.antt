@@ -93,7 +93,7 @@ table-asked form table images level pair limit items counts before after is up_t
 
 -- ---- why boards are not counted by a file, where no name changed
 
-count-still : (table : CellTable) (old new : Stands) (fault : FolderFault) → Same old new → IsCountFault table new fault → IsCountFault table old fault
+pub count-still : (table : CellTable) (old new : Stands) (fault : FolderFault) → Same old new → IsCountFault table new fault → IsCountFault table old fault
 count-still table old new fault same (inl is) = inl is
 count-still table old new fault same (inr (inl is)) = inr (inl (fault_before table.level 0 0 old new fault same (omega arith) is))
 count-still table old new fault same (inr (inr is)) = inr (inr (is.0, λ levels images says low. is.1 levels images (still_says old new levels images same says) low))

@@ -29,27 +29,20 @@ use Rattle.awari_table.specs.Images.{entry_of, even_boards, lost_boards, no_entr
 use Rattle.awari_table.specs.Shelves.{Consistent, IsShelf}
 use Rattle.awari_table.specs.declared.images.Entry.{Entry}
 use Rattle.awari_table.specs.declared.images.Image.{Image}
-use Rattle.awari_counts.proofs.CellLaws.{number-key}
+use Rattle.awari_counts.proofs.CellLaws.{has_number, number-key, placed-at}
 use Rattle.awari_counts.proofs.KeyLaws.{HasKey, above_each, one_if, total-both, total-counts}
 use Rattle.awari_counts.specs.Counts.{boards_of_distance, boards_of_value}
 use Rattle.awari_counts.specs.Pairs.{boards_with}
-use Rattle.awari_counts.specs.Ranges.{below_of, number_at, width_of}
+use Rattle.awari_counts.specs.Ranges.{number_at, width_of}
 
 -- ---- the number of a board has a place
-
-abbrev has_number : List Image → Column → ℕ → List ℕ → Bool
-has_number images column k board = int_eq (number_in images column board) (number_at column k)
 
 HasPlace : List Image → ℕ → Column → List ℕ → Type 0
 HasPlace images limit column board = HasKey (has_number images column) (width_of limit column) board
 
 placed : (images : List Image) (limit : ℕ) (column : Column) (board : List ℕ) (place : ℕ) → place < width_of limit column → number_in images column board ≡ number_at column place → HasPlace images limit column board
 unfolding HasPlace
-placed images limit column board place inside is = record {
-  key = place;
-  below = inside;
-  is = λ k. ap (λ n. int_eq n (number_at column k)) is ∙ number-key (below_of column) place k;
-}
+placed images limit column board place inside is = placed-at images column (width_of limit column) place board inside is
 
 -- the place of a value of at most 24 stones
 value-place : (v : ℤ) (n : ℕ) → n ≤ 24 → neg_ℤ (pos n) ≤ℤ v → v ≤ℤ pos n → (j : ℕ) × (j < 256) × (v ≡ number_at Value j)

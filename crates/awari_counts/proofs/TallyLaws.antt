@@ -1,58 +1,105 @@
--- The entries of a level, counted one by one.
-use mir.Val.{bool_byte}
-use Rattle.std.proofs.Common.{◌≡◌, ◌==◌, Bool, true, false, ℕ, ◌+◌, ◌<◌, List, [], ◌∷◌, ◌++◌, length, count_by, get_or, set, slice_get, Option, Some, None, sym, ap, subst, ◌∙◌, arith, inl, inr}
+-- A level that is told in numbers, and why one is not.
+use Rattle.std.proofs.Common.{◌≡◌, ℕ, ◌<◌, ◌≤◌, List, length, get_or, slice_get, Option, Some, None, sym, ap, subst, ◌∙◌, arith, inl, inr}
 use Rattle.std.specs.Prelude.{IsSomeAnd}
-use Rattle.std.proofs.lemmas.Bool.{cases_lt}
-use Rattle.std.proofs.lemmas.List.{ext_get_or, get_or_append_left, get_or_default, get_or_push, length-append, length-set}
+use Rattle.std.proofs.lemmas.List.{get_or_default}
 use Rattle.std.proofs.lemmas.List.FromFn.{length-map-range_with_len}
-use Rattle.std.proofs.lemmas.Option.{get_or_from_slice_get, slice_get_within}
+use Rattle.std.proofs.lemmas.Option.{get_or_from_slice_get, slice_get-get_or}
 use Rattle.awari_folder.specs.Contents.{Same, Stands}
 use Rattle.awari_folder.specs.declared.faults.FolderFault.{FolderFault}
 use Rattle.awari_places.proofs.Reading.{image_got, levels_said}
-use Rattle.awari_places.specs.Places.{entry_in, image_in}
-use Rattle.awari_places.specs.Runs.{IsEntryAt, IsRunOf}
-use Rattle.awari_places.specs.declared.kept.Run.{Run}
+use Rattle.awari_places.specs.Places.{AreFormed, Says, entry_in, image_in}
+use Rattle.awari_places.specs.Runs.{IsEntryAt}
 use Rattle.awari_rank.specs.Rank.{size_of}
-use Rattle.awari_table.specs.Images.{no_entry, no_image}
+use Rattle.awari_rank.specs.Tuples.{tuples}
+use Rattle.awari_table.specs.Images.{no_image}
 use Rattle.awari_table.specs.declared.images.Entry.{Entry}
 use Rattle.awari_table.specs.declared.images.Image.{Image}
-use Rattle.awari_counts.proofs.KeyLaws.{count_by-push, counted-push, one_if}
 use Rattle.awari_facts.specs.Sources.{IsLimitUnread, SaysBy, levels_of, limit_of}
 use Rattle.awari_counts.specs.Numbers.{AreNumbersOf}
 use Rattle.awari_counts.specs.declared.counts.Numbers.{Numbers}
-use Rattle.awari_facts.proofs.SourceLaws.{image_of, says_still, unread_before}
-use Rattle.awari_counts.specs.Tables.{wrong_limit}
-use Rattle.awari_counts.specs.Tallies.{AreCounted, AreEntriesOf, IsCountsFault, IsNumbersFault, IsTallied, IsTallyFault, IsTallyOf}
+use Rattle.awari_facts.proofs.SourceLaws.{image_of, says_still}
+use Rattle.awari_counts.proofs.PairLaws.{count-still}
+use Rattle.awari_counts.proofs.SumLaws.{distance_read, greatest, tallied}
+use Rattle.awari_counts.specs.Counts.{boards_of_distance}
+use Rattle.awari_counts.specs.Sums.{AreSumsIn}
+use Rattle.awari_counts.specs.Tables.{AreTabled, IsSized, IsTableFault}
+use Rattle.awari_counts.specs.Tallies.{HasNoneAsFar, IsCountsFault, IsNumbersFault, IsTallied, IsTallyFault, IsTallyOf, values_table}
 use Rattle.awari_facts.specs.declared.sources.Source.{Source}
 use Rattle.awari_facts.specs.declared.sources.Source.TheVariants.{Memory, Files}
-use Rattle.awari_counts.specs.declared.tallies.Tally.{Tally}
+use Rattle.awari_counts.specs.declared.sums.Tally.{Tally}
+use Rattle.awari_counts.specs.declared.tables.CellTable.{CellTable}
 
--- one entry more, whose key is j
-pub counted-more : (test : ℕ → Entry → Bool) (n : ℕ) (entries : List Entry) (counts next : List ℕ) (j : ℕ) (e : Entry) → AreCounted test n entries counts → j < n → ((k : ℕ) → k < n → test k e ≡ (j == k))
-    → next ≡ set counts j (get_or counts j 0 + 1) → AreCounted test n (entries ++ e ∷ []) next
-counted-more test n entries counts next j e are below key is = record {
-  long = ap length is ∙ length-set counts j (get_or counts j 0 + 1) ∙ are.long;
-  each = λ k inside. counted-push (test k) entries e counts next j k (omega (arith, are.long, below)) is (key k inside) (are.each k inside);
-}
+-- ---- a level that is there has an entry for each board
 
--- one entry more that passes a test, or does not
-pub passed-more : (test : Entry → Bool) (entries : List Entry) (e : Entry) (n : ℕ) (passes : Bool) → n ≡ count_by test entries → test e ≡ passes → n + bool_byte passes ≡ count_by test (entries ++ e ∷ [])
-passed-more test entries e n true before is = omega (arith, before, count_by-push test entries e, ap one_if is)
-passed-more test entries e n false before is = omega (arith, before, count_by-push test entries e, ap one_if is)
+named_sized : (level k : ℕ) (name : Option (List ℕ)) (image : Image) (e : Entry) → Some image ≡ Some (image_in level name) → slice_get image.entries k ≡ Some e → (image.level ≡ level) × (length image.entries ≡ size_of level)
+unfolding image_in
+named_sized level k None image e same some =
+    let is : image ≡ no_image = cc in
+    let none : slice_get image.entries k ≡ None = ap (λ (m : Image). slice_get m.entries k) is in
+    absurd cc
+named_sized level k (Some bytes) image e same some =
+    let is : image ≡ image_in level (Some bytes) = cc in
+    (ap (λ (m : Image). m.level) is, ap (λ (m : Image). length m.entries) is ∙ length-map-range_with_len (entry_in bytes) 0 (size_of level))
 
--- a level that is counted, and told of so
+sized_as : (o : Option Image) (image : Image) (level : ℕ) → o ≡ Some image → (image.level ≡ level) × (length image.entries ≡ size_of level) → IsSomeAnd o (λ m. (m.level ≡ level) × (length m.entries ≡ size_of level))
+sized_as o image level is sized = subst (λ (p : Option Image). IsSomeAnd p (λ m. (m.level ≡ level) × (length m.entries ≡ size_of level))) (sym is) sized
+
+-- by an entry that was read of its file
+pub sized_said : (stands : Stands) (levels level k : ℕ) (images : List Image) (e : Entry) → Says stands levels images → level < levels → IsEntryAt images level k e → IsSized images level
+sized_said stands levels level k images e says known there =
+    let (image, found, read) = image_of (slice_get images level) (λ m. slice_get m.entries k ≡ Some e) there in
+    sized_as (slice_get images level) image level found (named_sized level k (says.names level) image e (sym found ∙ image_got stands levels level images says known) read)
+
+-- or in memory
+pub sized_held : (images : List Image) (level : ℕ) → AreFormed images → level < length images → IsSized images level
+sized_held images level formed known =
+    sized_as (slice_get images level) (get_or images level no_image) level (slice_get-get_or images level no_image known) (formed.number level known, formed.sized level known)
+
+-- ---- a level that is counted
+
+-- what stands at the limit
+read_as : (tally : Tally) (limit boards : ℕ) (counts : List ℕ) → AreSumsIn limit counts tally → get_or tally.distances.items limit boards ≡ get_or tally.distances.items limit 0
+read_as tally limit boards counts sums = sym (get_or_default tally.distances.items limit 0 boards (omega (arith, sums.distances.long)))
+
+-- the level is counted up to its greatest distance
+pub tallied-up : (images : List Image) (table : CellTable) (counts read : List ℕ) (tally : Tally) (boards : ℕ) → table ≡ values_table table.level table.limit → table.level ≤ 24 → AreTabled images table (tuples 12 table.level) counts
+    → IsSized images table.level → read ≡ counts → AreSumsIn table.limit read tally → boards ≡ get_or tally.distances.items table.limit boards → 0 < boards → IsSomeAnd (slice_get images table.level) (IsTallied table.level table.limit tally)
+tallied-up images table counts read tally boards is low are sized same sums has some =
+    let (image, found, whole) = image_of (slice_get images table.level) (λ m. (m.level ≡ table.level) × (length m.entries ≡ size_of table.level)) sized in
+    let by_values = subst (λ t. AreTabled images t (tuples 12 table.level) counts) is are in
+    let of_counts = subst (λ xs. AreSumsIn table.limit xs tally) same sums in
+    let is_tallied : IsTallied table.level table.limit tally image = record {
+      number = whole.0;
+      sized = whole.1;
+      counted = tallied images image table.level low found whole.1 table.limit counts by_values tally of_counts;
+      greatest = greatest images image table.level low found whole.1 table.limit counts by_values tally of_counts boards (has ∙ read_as tally table.limit boards read sums) some;
+    } in
+    subst (λ (o : Option Image). IsSomeAnd o (IsTallied table.level table.limit tally)) (sym found) is_tallied
+
+-- no board is as far from its end
+pub none_as_far : (images : List Image) (table : CellTable) (counts read : List ℕ) (tally : Tally) (boards : ℕ) → table ≡ values_table table.level table.limit → table.level ≤ 24 → AreTabled images table (tuples 12 table.level) counts
+    → IsSized images table.level → read ≡ counts → AreSumsIn table.limit read tally → boards ≡ get_or tally.distances.items table.limit boards → boards ≡ 0 → HasNoneAsFar images table
+none_as_far images table counts read tally boards is low are sized same sums has none =
+    let (image, found, whole) = image_of (slice_get images table.level) (λ m. (m.level ≡ table.level) × (length m.entries ≡ size_of table.level)) sized in
+    let by_values = subst (λ t. AreTabled images t (tuples 12 table.level) counts) is are in
+    let of_counts = subst (λ xs. AreSumsIn table.limit xs tally) same sums in
+    let read_so = distance_read images image table.level low found whole.1 table.limit counts by_values tally of_counts table.limit (omega arith) in
+    subst (λ (o : Option Image). IsSomeAnd o (λ m. boards_of_distance m.entries table.limit ≡ 0)) (sym found) (sym read_so ∙ sym (has ∙ read_as tally table.limit boards read sums) ∙ none)
+
+-- ---- a level that is told of
+
 abbrev numbers_as : ℕ → ℕ → ℕ → Tally → Numbers
 numbers_as level boards limit tally = record { told = record { level = level; boards = boards; counts = tally.counts; limit = limit }; tally = tally }
 
-pub numbered : (source : Source) (stands : Stands) (level boards limit : ℕ) (tally : Tally) (images : List Image) → IsTallied source stands level limit tally → SaysBy source stands images
-    → limit ≡ limit_of images level → boards ≡ size_of level → IsSomeAnd (slice_get images level) (λ image. AreNumbersOf image (numbers_as level boards limit tally))
-numbered source stands level boards limit tally images tallied says is many =
-    let (image, found, same) = image_of (slice_get images level) (λ image. (image.level ≡ level) × (image.entries ≡ tallied.entries)) (tallied.said images says) in
+pub numbered : (images : List Image) (level boards limit : ℕ) (tally : Tally) → IsSomeAnd (slice_get images level) (IsTallied level limit tally) → limit ≡ limit_of images level → boards ≡ size_of level
+    → IsSomeAnd (slice_get images level) (λ image. AreNumbersOf image (numbers_as level boards limit tally))
+numbered images level boards limit tally there is many =
+    let (image, found, so) = image_of (slice_get images level) (IsTallied level limit tally) there in
     let limited : limit ≡ image.limit = is ∙ ap (λ (m : Image). m.limit) (get_or_from_slice_get images level image no_image found) in
-    let counted : IsTallyOf limit image.entries tally = subst (λ (es : List Entry). IsTallyOf limit es tally) (sym same.1) tallied.counted in
     let are : AreNumbersOf image (numbers_as level boards limit tally) = record {
-      told = record { level = sym same.0; boards = many ∙ sym tallied.many ∙ ap length (sym same.1); won = counted.won; even = counted.even; lost = counted.lost; limit = limited };
-      tally = subst (λ (l : ℕ). IsTallyOf l image.entries tally) limited counted;
+      told = record { level = sym so.number; boards = many ∙ sym so.sized; won = so.counted.won; even = so.counted.even; lost = so.counted.lost; limit = limited };
+      tally = subst (λ (l : ℕ). IsTallyOf l image.entries tally) limited so.counted;
+      greatest = sym limited ∙ so.greatest;
     } in
     subst (λ (o : Option Image). IsSomeAnd o (λ m. AreNumbersOf m (numbers_as level boards limit tally))) (sym found) are
 
@@ -61,121 +108,31 @@ pub levels_by : (source : Source) (stands : Stands) (images : List Image) → Sa
 levels_by (Memory levels) stands images says = ap length says.0
 levels_by (Files levels) stands images says = levels_said stands levels images says
 
--- each of these is the level's entry at its place
-abbrev pub EachIsAt : List Image → ℕ → List Entry → Type 0
-EachIsAt images level entries = (k : ℕ) → k < length entries → IsEntryAt images level k (get_or entries k no_entry)
+-- ---- why a level is not told of, where no name changed
 
--- how far the counting has come
-pub record Tallied (source : Source) (stands : Stands) (level limit rank : ℕ) (run : Run) (tally : Tally) : Type 0 where
-  pub entries : List Entry
-  pub many : length entries ≡ rank
-  pub counted : IsTallyOf limit entries tally
-  pub said : (images : List Image) → SaysBy source stands images → IsRunOf images level run × EachIsAt images level entries
+table_still : (source : Source) (old new : Stands) (table : CellTable) (fault : FolderFault) → Same old new → IsTableFault source new table fault → IsTableFault source old table fault
+table_still (Memory levels) old new table fault same is = is
+table_still (Files levels) old new table fault same is = count-still table old new fault same is
 
-pushed : (images : List Image) (level : ℕ) (entries : List Entry) (e : Entry) → EachIsAt images level entries → IsEntryAt images level (length entries) e → EachIsAt images level (entries ++ e ∷ [])
-pushed images level entries e first here k lt = elim (cases_lt k (length entries)) [
-  | inl less ↦ subst (IsEntryAt images level k) (sym (get_or_append_left entries (e ∷ []) no_entry k less)) (first k less)
-  | inr ge ↦
-      let same : length entries ≡ k = omega (arith, ge, lt, length-append entries (e ∷ [])) in
-      subst (IsEntryAt images level k) (sym (get_or_push entries e no_entry k same)) (subst (λ (n : ℕ). IsEntryAt images level n e) same here)
-]
-
-pub tallied-more : (source : Source) (first now : Stands) (level limit rank : ℕ) (run after : Run) (tally next : Tally) (e : Entry) → Tallied source first level limit rank run tally
-    → Same first now → ((images : List Image) → SaysBy source now images → IsRunOf images level run → IsEntryAt images level rank e)
-    → ((images : List Image) → SaysBy source now images → IsRunOf images level run → IsRunOf images level after)
-    → ((entries : List Entry) → IsTallyOf limit entries tally → IsTallyOf limit (entries ++ e ∷ []) next) → Tallied source first level limit (rank + 1) after next
-tallied-more source first now level limit rank run after tally next e so_far same read kept added = record {
-  entries = so_far.entries ++ e ∷ [];
-  many = length-append so_far.entries (e ∷ []) ∙ ap (λ n. n + 1) so_far.many;
-  counted = added so_far.entries so_far.counted;
-  said = λ images says.
-      let before = so_far.said images says in
-      let still = says_still source first now images same says in (
-        kept images still before.0,
-        pushed images level so_far.entries e before.1 (subst (λ (n : ℕ). IsEntryAt images level n e) (sym so_far.many) (read images still before.0)),
-      );
-}
-
-named_sized : (level : ℕ) (name : Option (List ℕ)) (image : Image) (e : Entry) → Some image ≡ Some (image_in level name) → slice_get image.entries 0 ≡ Some e
-    → (length image.entries ≡ size_of level) × (image.level ≡ level)
-unfolding image_in
-named_sized level None image e same some =
-    let is : image ≡ no_image = cc in
-    let none : slice_get image.entries 0 ≡ None = ap (λ (m : Image). slice_get m.entries 0) is in
-    absurd cc
-named_sized level (Some bytes) image e same some =
-    let is : image ≡ image_in level (Some bytes) = cc in
-    (ap (λ (m : Image). length m.entries) is ∙ length-map-range_with_len (entry_in bytes) 0 (size_of level), ap (λ (m : Image). m.level) is)
-
--- a level that is there has as many entries as boards
-pub sized_by : (source : Source) (stands : Stands) (images : List Image) (level : ℕ) (image : Image) (e : Entry) → SaysBy source stands images → slice_get images level ≡ Some image
-    → slice_get image.entries 0 ≡ Some e → (length image.entries ≡ size_of level) × (image.level ≡ level)
-sized_by (Memory levels) stands images level image e says found some =
-    let known : level < length images = slice_get_within images level image found in
-    let is : get_or images level no_image ≡ image = get_or_from_slice_get images level image no_image found in
-    (ap (λ (m : Image). length m.entries) (sym is) ∙ says.1.sized level known, ap (λ (m : Image). m.level) (sym is) ∙ says.1.number level known)
-sized_by (Files levels) stands images level image e says found some =
-    let known : level < length images = slice_get_within images level image found in
-    let low : level < levels = omega (arith, known, levels_said stands levels images says) in
-    named_sized level (says.names level) image e (sym found ∙ image_got stands levels level images says low) some
-
-entry_found : (images : List Image) (level k : ℕ) (image : Image) (e : Entry) → slice_get images level ≡ Some image → IsEntryAt images level k e → slice_get image.entries k ≡ Some e
-entry_found images level k image e found there = subst (λ (o : Option Image). IsSomeAnd o (λ m. slice_get m.entries k ≡ Some e)) found there
-
--- all entries of a level are its entries
-whole : (source : Source) (stands : Stands) (images : List Image) (level : ℕ) (entries : List Entry) → SaysBy source stands images → EachIsAt images level entries
-    → length entries ≡ size_of level → 0 < length entries → AreEntriesOf images level entries
-whole source stands images level entries says first many some =
-    let (image, found, read) = image_of (slice_get images level) (λ m. slice_get m.entries 0 ≡ Some (get_or entries 0 no_entry)) (first 0 some) in
-    let sized = sized_by source stands images level image (get_or entries 0 no_entry) says found read in
-    let same : image.entries ≡ entries = ext_get_or no_entry image.entries entries (sized.0 ∙ sym many)
-    (λ k lt. get_or_from_slice_get image.entries k (get_or entries k no_entry) no_entry (entry_found images level k image (get_or entries k no_entry) found (first k (omega (arith, lt, sized.0, many))))) in
-    subst (λ (o : Option Image). IsSomeAnd o (λ m. (m.level ≡ level) × (m.entries ≡ entries))) (sym found) (sized.1, same)
-
-pub tallied-all : (source : Source) (stands : Stands) (level limit rank : ℕ) (run : Run) (tally : Tally) → Tallied source stands level limit rank run tally → rank ≡ size_of level → 0 < size_of level
-    → IsTallied source stands level limit tally
-tallied-all source stands level limit rank run tally all is some = record {
-  entries = all.entries;
-  many = all.many ∙ is;
-  counted = all.counted;
-  said = λ images says. whole source stands images level all.entries says (all.said images says).1 (all.many ∙ is) (omega (arith, some, all.many, is));
-}
-
--- ---- why a level is not counted, where no name changed
-
-tally_still : (source : Source) (old new : Stands) (level limit : ℕ) (fault : FolderFault) → Same old new → IsTallyFault source new level limit fault → IsTallyFault source old level limit fault
-tally_still source old new level limit fault same (inl is) = inl is
-tally_still source old new level limit fault same (inr (inl is)) = inr (inl (unread_before source level 0 old new fault same is))
-tally_still source old new level limit fault same (inr (inr (told, inl above))) = inr (inr (told, inl above))
-tally_still source old new level limit fault same (inr (inr (told, inr wrong))) = inr (inr (told, inr (λ images says. wrong images (says_still source old new images same says))))
+tally_still : (source : Source) (old new : Stands) (table : CellTable) (fault : FolderFault) → Same old new → IsTallyFault source new table fault → IsTallyFault source old table fault
+tally_still source old new table fault same (inl is) = inl (table_still source old new table fault same is)
+tally_still source old new table fault same (inr (told, wrong)) = inr (told, λ images says. wrong images (says_still source old new images same says))
 
 limit_still : (source : Source) (old new : Stands) (level : ℕ) (fault : FolderFault) → Same old new → IsLimitUnread source level (new level) fault → IsLimitUnread source level (old level) fault
 limit_still source old new level fault same is = subst (λ (known : Option (Option (List ℕ))). IsLimitUnread source level known fault) (same level) is
 
 -- the limit that was read is none up to which the level is counted
-pub numbers_uncounted : (source : Source) (old new : Stands) (level limit : ℕ) (fault : FolderFault) → Same old new → ((images : List Image) → SaysBy source old images → limit ≡ limit_of images level)
-    → IsTallyFault source new level limit fault → IsNumbersFault source old level fault
-numbers_uncounted source old new level limit fault same read is = inr (limit, read, tally_still source old new level limit fault same is)
+pub numbers_uncounted : (source : Source) (old new : Stands) (level limit : ℕ) (table : CellTable) (fault : FolderFault) → Same old new → ((images : List Image) → SaysBy source old images → limit ≡ limit_of images level)
+    → table ≡ values_table level limit → IsTallyFault source new table fault → IsNumbersFault source old level fault
+numbers_uncounted source old new level limit table fault same read is due =
+    inr (limit, read, inr (subst (λ (t : CellTable). IsTallyFault source old t fault) is (tally_still source old new table fault same due)))
 
 numbers_still : (source : Source) (old new : Stands) (level : ℕ) (fault : FolderFault) → Same old new → IsNumbersFault source new level fault → IsNumbersFault source old level fault
 numbers_still source old new level fault same (inl is) = inl (limit_still source old new level fault same is)
-numbers_still source old new level fault same (inr (limit, read, is)) = inr (limit, (λ images says. read images (says_still source old new images same says)), tally_still source old new level limit fault same is)
+numbers_still source old new level fault same (inr (limit, read, inl wrong)) = inr (limit, (λ images says. read images (says_still source old new images same says)), inl wrong)
+numbers_still source old new level fault same (inr (limit, read, inr is)) =
+    inr (limit, (λ images says. read images (says_still source old new images same says)), inr (tally_still source old new (values_table level limit) fault same is))
 
 -- one of all levels is not told in numbers
 pub counts_still : (source : Source) (old new : Stands) (level : ℕ) (fault : FolderFault) → level < levels_of source → Same old new → IsNumbersFault source new level fault → IsCountsFault source old None fault
 counts_still source old new level fault known same is = record { level = level; known = known; is_asked = tt; due = numbers_still source old new level fault same is }
-
--- an entry is farther from its end than the limit
-pub too_far : (source : Source) (first now : Stands) (level limit rank : ℕ) (run : Run) (tally : Tally) (e : Entry) (fault : FolderFault) → Tallied source first level limit rank run tally → Same first now
-    → ((images : List Image) → SaysBy source now images → IsRunOf images level run → IsEntryAt images level rank e) → limit < e.dist → fault ≡ wrong_limit level → IsTallyFault source first level limit fault
-too_far source first now level limit rank run tally e fault so_far same read above told =
-    inr (inr (told, inr (λ images says. inl (rank, e, read images (says_still source first now images same says) (so_far.said images says).0, above))))
-
--- no board is as far from its end
-pub none_as_far : (source : Source) (stands : Stands) (level limit : ℕ) (tally : Tally) (boards : ℕ) (fault : FolderFault) → IsTallied source stands level limit tally → boards ≡ get_or tally.distances.items limit boards
-    → boards ≡ 0 → fault ≡ wrong_limit level → IsTallyFault source stands level limit fault
-none_as_far source stands level limit tally boards fault tallied read none told =
-    let are = tallied.counted.distances in
-    let inside : limit < length tally.distances.items = omega (arith, are.long) in
-    let zero : get_or tally.distances.items limit 0 ≡ 0 = get_or_default tally.distances.items limit 0 boards inside ∙ sym read ∙ none in
-    inr (inr (told, inr (λ images says. inr (tallied.entries, tallied.said images says, sym (are.each limit (omega arith)) ∙ zero))))

@@ -5,5 +5,6 @@ pub mod Pairs
 pub mod Ranges
 pub mod RowHeads
 pub mod Rows
+pub mod Sums
 pub mod Tables
 pub mod Tallies

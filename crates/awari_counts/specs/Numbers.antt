@@ -1,21 +1,23 @@
 -- A level in numbers, and the levels that are asked for. Private functions alone go by these: no public contract does.
-use Rattle.std.specs.Prelude.{ℕ, ◌<◌, min, List, Option, Some, None}
+use Rattle.std.specs.Prelude.{◌≡◌, ℕ, ◌<◌, min, List, Option, Some, None}
 use Rattle.awari_answers.specs.Asked.{AreLevelsTo, IsUnloaded}
 use Rattle.awari_answers.specs.LevelLines.{IsToldOf}
 use Rattle.awari_answers.specs.declared.asked.NoAnswer.{NoAnswer}
 use Rattle.awari_folder.specs.Contents.{AreNames, Stands}
 use Rattle.awari_places.specs.Opening.{AreFramed, CountsOpened, IsUnopened}
 use Rattle.awari_places.specs.declared.opening.Opened.{Opened}
+use Rattle.awari_table.specs.Images.{greatest_dist}
 use Rattle.awari_table.specs.declared.TheConstants.{HIGHEST_LEVEL}
 use Rattle.awari_table.specs.declared.images.Image.{Image}
 use Rattle.awari_facts.specs.Loads.{CountsLoaded, HasLevel, IsNoFolder, IsNoLevel}
 use Rattle.awari_counts.specs.Tallies.{IsTallyOf}
 use Rattle.awari_counts.specs.declared.counts.Numbers.{Numbers}
 
--- these are the level's numbers
+-- these are the level's numbers, and its limit is the greatest distance
 pub record AreNumbersOf (image : Image) (numbers : Numbers) : Type 0 where
   pub told : IsToldOf image numbers.told
   pub tally : IsTallyOf image.limit image.entries numbers.tally
+  pub greatest : image.limit ≡ greatest_dist image.entries
 
 -- the levels that the folder stores, up to the one of this number if there is one
 abbrev pub HasLevels : Option ℕ → Stands → List Image → Type 0

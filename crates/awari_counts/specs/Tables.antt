@@ -1,9 +1,12 @@
 -- A table of numbers of boards, row by row. Private functions alone go by this: no public contract does.
-use Rattle.std.specs.Prelude.{◌≡◌, ◌⊎◌, Bool, true, false, ℕ, ◌+◌, ◌*◌, ◌<◌, ◌≤◌, List, count_by, length, slice_get, slice_index, slice_index_or, take, ℤ, Option, Some, None}
+use Rattle.std.specs.Prelude.{◌≡◌, ◌⊎◌, Bool, true, false, ℕ, ◌+◌, ◌*◌, ◌<◌, ◌≤◌, List, count_by, length, slice_get, slice_index, slice_index_or, take, ℤ, Option, Some, None, All, IsSomeAnd}
 use Rattle.awari_folder.specs.Contents.{Stands}
 use Rattle.awari_facts.specs.Numbers.{is_own, number_in}
+use Rattle.awari_facts.specs.Sources.{images_of}
+use Rattle.awari_facts.specs.declared.sources.Source.{Source}
+use Rattle.awari_facts.specs.declared.sources.Source.TheVariants.{Memory, Files}
 use Rattle.awari_folder.specs.declared.faults.FolderFault.{FolderFault}
-use Rattle.awari_folder.specs.declared.faults.FolderFault.TheVariants.{Memory, Verify}
+use Rattle.awari_folder.specs.declared.faults.FolderFault.TheVariants as folder
 use Rattle.awari_places.specs.Faults.{IsFaultFrom}
 use Rattle.awari_places.specs.Places.{Says}
 use Rattle.awari_verify.specs.declared.rules.Rule.TheVariants.{V7}
@@ -45,8 +48,13 @@ pub record IsCell (table : CellTable) (first second : ℤ) (cell : ℕ) : Type 0
 abbrev pub IsCellOf : List Image → CellTable → List ℕ → ℕ → Type 0
 IsCellOf images table board cell = IsCell table (number_in images table.pair.first board) (number_in images table.pair.second board) cell
 
--- each cell has the number of those of these boards that have its two numbers
+-- it has one
+abbrev pub IsPlaced : List Image → CellTable → List ℕ → Type 0
+IsPlaced images table board = (cell : ℕ) × IsCellOf images table board cell
+
+-- Each of these boards has a cell, and each cell has the number of those of them that have its two numbers.
 pub record AreTabled (images : List Image) (table : CellTable) (boards : List (List ℕ)) (counts : List ℕ) : Type 0 where
+  pub placed : All (IsPlaced images table) boards
   pub each : (i j : ℕ) → i < rows_of table → j < columns_of table
       → slice_index counts (i * columns_of table + j) ≡ count_by (has_pair images table.pair.first table.pair.second (number_at table.pair.first i) (number_at table.pair.second j)) boards
 
@@ -54,9 +62,13 @@ pub record AreTabled (images : List Image) (table : CellTable) (boards : List (L
 abbrev pub AreTabledTo : List Image → CellTable → ℕ → List ℕ → Type 0
 AreTabledTo images table rank counts = AreTabled images table (take rank (tuples 12 table.level)) counts
 
+-- the level of this number is there, and has an entry for each of its boards
+abbrev pub IsSized : List Image → ℕ → Type 0
+IsSized images level = IsSomeAnd (slice_get images level) (λ image. (image.level ≡ level) × (length image.entries ≡ size_of level))
+
 -- 83 with V7 of a level
 abbrev pub wrong_limit : ℕ → FolderFault
-wrong_limit level = Verify level (Refused 0 V7)
+wrong_limit level = folder.Verify level (Refused 0 V7)
 
 -- the board of a rank has no cell
 pub record LacksCell (images : List Image) (table : CellTable) (rank : ℕ) : Type 0 where
@@ -70,13 +82,18 @@ HasNoCell images table = (rank : ℕ) × LacksCell images table rank
 
 -- Why the boards of a level in memory are not counted: 84, or 83 with V7 if a board has no cell.
 abbrev pub IsHeldCountFault : List Image → CellTable → FolderFault → Type 0
-IsHeldCountFault images table fault = (fault ≡ Memory) ⊎ ((fault ≡ wrong_limit table.level) × HasNoCell images table)
+IsHeldCountFault images table fault = (fault ≡ folder.Memory) ⊎ ((fault ≡ wrong_limit table.level) × HasNoCell images table)
 
 -- Why the boards of a level are not counted by its file: 84, or as the entry of some rank is refused, or 83 with V7 if a board has no
 -- cell.
 abbrev pub IsCountFault : CellTable → Stands → FolderFault → Type 0
-IsCountFault table stands fault = (fault ≡ Memory) ⊎ (IsFaultFrom table.level 0 (stands table.level) fault
+IsCountFault table stands fault = (fault ≡ folder.Memory) ⊎ (IsFaultFrom table.level 0 (stands table.level) fault
     ⊎ ((fault ≡ wrong_limit table.level) × ((levels : ℕ) (images : List Image) → Says stands levels images → table.level < levels → HasNoCell images table)))
+
+-- The same by where the entries are read.
+abbrev pub IsTableFault : Source → Stands → CellTable → FolderFault → Type 0
+IsTableFault (Memory levels) stands table fault = IsHeldCountFault (images_of levels) table fault
+IsTableFault (Files levels) stands table fault = IsCountFault table stands fault
 
 -- the board of a rank is in this cell
 pub record HasCell (images : List Image) (table : CellTable) (rank cell : ℕ) : Type 0 where

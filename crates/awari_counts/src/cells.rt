@@ -1,16 +1,18 @@
-//! How many boards of a level in memory have each pair of numbers, by threads.
+//! How many boards of a level have each pair of numbers: of a level in memory by threads, else by its file.
 
-ghost use Rattle.std.specs.Prelude.{◌≡◌, ◌<◌, ◌≤◌, ◌+◌, ◌^◌, ℕ, List, None, Some, IfErr, IfOk, length, slice_index, slice_index_or, vec_len};
-ghost use Rattle.awari_facts.specs.Sources.{images_of};
+ghost use Rattle.std.specs.Prelude.{◌≡◌, ◌<◌, ◌≤◌, ◌+◌, ◌^◌, ℕ, List, None, Some, IfErr, IfOk, length, slice_index_or, sum, vec_len};
+ghost use Rattle.awari_facts.specs.Sources.{SaysBy, images_of, levels_of};
+ghost use Rattle.awari_folder.specs.State.{Unchanged};
 ghost use Rattle.awari_rank.specs.Rank.{size_of};
 ghost use Rattle.awari_rank.specs.Tuples.{tuples};
+ghost use Rattle.awari_table.specs.declared.TheConstants.{HIGHEST_LEVEL};
 ghost use Rattle.awari_table.specs.declared.images.Image.{Image};
 ghost use Rattle.awari_counts.specs.declared.cells.Start.{Start as AStart};
-ghost use Rattle.awari_counts.specs.Tables.{AreCellsFrom, AreTabled, CountsSegment, HasBoards, IsCellAt, IsHeldCountFault, cells_of};
+ghost use Rattle.awari_counts.specs.Tables.{AreCellsFrom, AreTabled, CountsSegment, HasBoards, IsCellAt, IsHeldCountFault, IsOwn, IsSized, IsTableFault, cells_of};
 
-use crate::tables::{CellTable, cell_at, count_cell, new_counts, wrong_limit};
-use awari_facts::{Levels, Seen, entry_on, levels_in, number_of};
-use awari_folder::FolderFault;
+use crate::tables::{CellTable, cell_at, count_cell, count_own, new_counts, wrong_limit};
+use awari_facts::{Levels, Seen, Source, entry_on, levels_in, number_of};
+use awari_folder::{Folder, FolderFault};
 use awari_rank::size;
 use rayon::prelude::*;
 use std::alloc::Global;
@@ -77,9 +79,9 @@ fn find_cells<T: Threads + Sync>(
 /// there is room to count.
 fn count_found(counts: &mut Vec<u32>, found: &[Option<usize>]) -> bool
     requires inside { (k cell : ℕ) → k < length found.now → slice_index_or found.now k None ≡ Some cell → cell < vec_len counts.old }
-    requires few { (k : ℕ) → slice_index counts.old.items k + length found.now ≤ 4294967295 }
+    requires few { sum counts.old.items + length found.now ≤ 4294967295 }
     ensures long { vec_len counts.new ≡ vec_len counts.old }
-    ensures few { (k : ℕ) → slice_index counts.new.items k ≤ slice_index counts.old.items k + length found.now }
+    ensures few { sum counts.new.items ≤ sum counts.old.items + length found.now }
     ensures counted { (images : List Image) (start : AStart) → AreCellsFrom images start.table start.first found.now → CountsSegment result images start (length found.now) counts.old.items counts.new.items }
 {
     for place in 0..found.len() {
@@ -102,9 +104,9 @@ fn count_segment<T: Threads + Sync>(
 ) -> bool
     requires boards { HasBoards (images_of levels) start (length found.old) }
     requires long { vec_len counts.old ≡ cells_of start.table }
-    requires few { (k : ℕ) → slice_index counts.old.items k ≤ start.first }
+    requires few { sum counts.old.items ≤ start.first }
     ensures long { vec_len counts.new ≡ cells_of start.table }
-    ensures few { (k : ℕ) → slice_index counts.new.items k ≤ start.first + length found.old }
+    ensures few { sum counts.new.items ≤ start.first + length found.old }
     ensures counted { CountsSegment result (images_of levels.entry) start (length found.old) counts.old.items counts.new.items }
 {
     find_cells(rt, levels, start, found);
@@ -122,6 +124,7 @@ pub(crate) fn count_on<T: Threads + Sync>(
 ) -> Result<Vec<u32>, FolderFault>
     requires { table.level < length (images_of levels) }
     ensures long { IfOk result (λ counts. vec_len counts ≡ cells_of table) }
+    ensures few { IfOk result (λ counts. sum counts.items ≤ 4294967295) }
     ensures counted { IfOk result (λ counts. AreTabled (images_of levels.entry) table (tuples 12 table.level) counts.items) }
     ensures fault { IfErr result (IsHeldCountFault (images_of levels.entry) table) }
 {
@@ -146,4 +149,30 @@ pub(crate) fn count_on<T: Threads + Sync>(
         first += many;
     }
     Ok(counts)
+}
+
+/// How many boards of a level are in each cell, by where its entries are read: [`count_on`] by levels in memory,
+/// [`count_own`] by its file. Conditions: the source has the level, and an entry and the rules say both numbers. It
+/// takes memory and is refused as they are.
+pub(crate) fn count_by_source<T: Threads + Sync, F: Folder>(
+    rt: &T,
+    alloc: Global,
+    source: Source<'_>,
+    folder: &mut F,
+    table: CellTable,
+) -> Result<Vec<u32>, FolderFault>
+    requires own { IsOwn table.pair }
+    requires level { table.level < levels_of source }
+    requires low { table.level ≤ HIGHEST_LEVEL }
+    ensures long { IfOk result (λ counts. vec_len counts ≡ cells_of table) }
+    ensures few { IfOk result (λ counts. sum counts.items ≤ 4294967295) }
+    ensures counted { (images : List Image) → SaysBy source.entry (F.state folder.old).stands images → IfOk result (λ counts. AreTabled images table (tuples 12 table.level) counts.items) }
+    ensures sized { (images : List Image) → SaysBy source.entry (F.state folder.old).stands images → IfOk result (λ counts. IsSized images table.level) }
+    ensures same { Unchanged (F.state folder.old) (F.state folder.new) }
+    ensures fault { IfErr result (IsTableFault source.entry (F.state folder.old).stands table) }
+{
+    match source {
+        Source::Memory(levels) => count_on(rt, alloc, levels, table),
+        Source::Files(_) => count_own(alloc, folder, table),
+    }
 }

@@ -5,23 +5,23 @@ ghost use Rattle.std.specs.Io.KnownBytes.{Appends};
 ghost use Rattle.awari_folder.specs.Contents.{Lacks, Same};
 ghost use Rattle.awari_folder.specs.State.{Unchanged};
 ghost use Rattle.awari_table.specs.declared.TheConstants.{HIGHEST_LEVEL};
-ghost use Rattle.awari_table.specs.declared.images.Entry.{Entry as AnEntry};
 ghost use Rattle.awari_table.specs.declared.images.Image.{Image};
 ghost use Rattle.awari_counts.specs.Counts.{AppendsCounts, PrintsCountsBy, PrintsCountsSaid, count_lines, shown_levels};
 ghost use Rattle.awari_members.specs.Forms.{form_of};
 ghost use Rattle.awari_counts.specs.Numbers.{AreNumbersOf, HasLevels, HasOpened, IsNotLoaded, IsNotOpened};
 ghost use Rattle.awari_facts.specs.Sources.{SaysBy, levels_of};
-ghost use Rattle.awari_counts.specs.Tallies.{IsCountsFault, IsNumbersFault, IsTallyOf};
+ghost use Rattle.awari_counts.specs.Tallies.{AreWide, IsCountsFault, IsNumbersFault};
 
 use crate::rows::{Row, print_row};
 use crate::shown::{print_level, print_names, print_top};
-use crate::tallies::{Tally, tally_level};
+use crate::sums::{Tally, tally_level};
+use crate::tables::table_of;
 use awari_answers::{LevelLine, NoAnswer, Remarks, load_levels, refuse_level, status_of};
 use awari_facts::{Levels, Source, count_levels, load_to, open_all, open_to, read_limit};
 use awari_folder::{Folder, FolderFault};
 use awari_members::{Form, form_of};
 use awari_places::Opened;
-use awari_queries::{Column, CountsQuery};
+use awari_queries::{Column, CountsQuery, Pair};
 use awari_rank::size;
 use awari_table::{HIGHEST_LEVEL, Shelf};
 use std::alloc::Global;
@@ -35,9 +35,19 @@ struct Numbers {
     tally: Tally,
 }
 
+/// What is printed: the levels of a source, or the one of a number, in a form.
+#[derive(Clone, Copy)]
+struct Task<'s> {
+    source: Source<'s>,
+    level: Option<u8>,
+    form: Form,
+}
+
 /// A level in numbers. Condition: the source has the level. It looks at each entry once, and takes memory
-/// for four bytes a distance. It is refused as [`read_limit`] or [`tally_level`] is.
-fn numbers_of<F: Folder>(
+/// for four bytes a pair of a value and a distance. It is refused as [`read_limit`] or [`tally_level`] is, and as
+/// 83 with V7 if the limit is above the number of boards.
+fn numbers_of<T: Threads + Sync, F: Folder>(
+    rt: &T,
     alloc: Global,
     source: Source<'_>,
     folder: &mut F,
@@ -45,14 +55,19 @@ fn numbers_of<F: Folder>(
 ) -> Result<Numbers, FolderFault>
     requires level { level < levels_of source }
     requires low { level ≤ HIGHEST_LEVEL }
-    ensures counted { IfOk result (λ numbers. (entries : List AnEntry) × IsTallyOf numbers.told.limit entries numbers.tally) }
+    ensures wide { IfOk result (λ numbers. AreWide numbers.told.limit numbers.tally) }
     ensures said { (images : List Image) → SaysBy source.entry (F.state folder.old).stands images
         → IfOk result (λ numbers. IsSomeAnd (slice_get images level) (λ image. AreNumbersOf image numbers)) }
     ensures same { Unchanged (F.state folder.old) (F.state folder.new) }
     ensures fault { IfErr result (IsNumbersFault source.entry (F.state folder.old).stands level) }
 {
     let limit = read_limit(source, folder, level)?;
-    let tally = tally_level(alloc, source, folder, level, limit)?;
+    let pair = Pair {
+        first: Column::Value,
+        second: Column::Distance,
+    };
+    let table = table_of(level, pair, limit)?;
+    let tally = tally_level(rt, alloc, source, folder, table)?;
     let told = LevelLine {
         level,
         boards: size(level),
@@ -65,7 +80,7 @@ fn numbers_of<F: Folder>(
 /// Prints what stands above, and the lines of a level's values and distances, and says whether the writer took
 /// them.
 fn print_numbers<W: Write>(numbers: &Numbers, form: Form, writer: &mut W) -> bool
-    requires { (entries : List AnEntry) × IsTallyOf numbers.now.told.limit entries numbers.now.tally }
+    requires { AreWide numbers.now.told.limit numbers.now.tally }
     ensures { (image : Image) → AreNumbersOf image numbers.now → result ≡ true → Appends (W.contents writer.old) (W.contents writer.new) (count_lines form image) }
 {
     // For the proof: the limit has 32 bits.
@@ -87,55 +102,54 @@ fn print_numbers<W: Write>(numbers: &Numbers, form: Form, writer: &mut W) -> boo
     print_row(numbers.tally.distances.as_slice(), distances, form, writer)
 }
 
-/// Prints the line of each level, and says whether the writer took them. It is refused as the numbers of one of
-/// them are.
-fn print_levels<F: Folder, W: Write>(
+/// Prints the line of each level, and says whether the writer took them. Condition: there are at most 25. It is
+/// refused as the numbers of one of them are.
+fn print_levels<T: Threads + Sync, F: Folder, W: Write>(
+    rt: &T,
     alloc: Global,
-    source: Source<'_>,
+    task: Task<'_>,
     folder: &mut F,
-    form: Form,
     writer: &mut W,
 ) -> Result<bool, FolderFault>
-    requires { levels_of source ≤ HIGHEST_LEVEL + 1 }
-    ensures printed { (images : List Image) → SaysBy source.entry (F.state folder.old).stands images → result ≡ Ok true
-        → Appends (W.contents writer.old) (W.contents writer.new) (shown_levels form images) }
+    requires { levels_of task.source ≤ HIGHEST_LEVEL + 1 }
+    ensures printed { (images : List Image) → SaysBy task.entry.source (F.state folder.old).stands images → result ≡ Ok true
+        → Appends (W.contents writer.old) (W.contents writer.new) (shown_levels task.entry.form images) }
     ensures same { Unchanged (F.state folder.old) (F.state folder.new) }
-    ensures fault { IfErr result (IsCountsFault source.entry (F.state folder.old).stands None) }
+    ensures fault { IfErr result (IsCountsFault task.entry.source (F.state folder.old).stands None) }
 {
-    if !print_names(form, writer) {
+    if !print_names(task.form, writer) {
         return Ok(false);
     }
-    for number in 0..count_levels(source) {
-        let numbers = numbers_of(alloc, source, folder, number)?;
-        if !print_level(numbers.told, form, writer) {
+    for number in 0..count_levels(task.source) {
+        let numbers = numbers_of(rt, alloc, task.source, folder, number)?;
+        if !print_level(numbers.told, task.form, writer) {
             return Ok(false);
         }
     }
     Ok(true)
 }
 
-/// Prints what is asked of the levels of the source, and says whether the writer took that. Condition: the
-/// one level that is asked for is there. It is refused as the numbers of one that is asked for are.
-fn print_counts<F: Folder, W: Write>(
+/// Prints what is asked of the levels of the source, and says whether the writer took that. Conditions: there are at
+/// most 25 levels, and the one that is asked for is there. It is refused as the numbers of one that is asked for are.
+fn print_counts<T: Threads + Sync, F: Folder, W: Write>(
+    rt: &T,
     alloc: Global,
-    source: Source<'_>,
+    task: Task<'_>,
     folder: &mut F,
-    query: CountsQuery<'_>,
     writer: &mut W,
 ) -> Result<bool, FolderFault>
-    requires few { levels_of source ≤ HIGHEST_LEVEL + 1 }
-    requires level { IfSome query.level (λ level. level < levels_of source) }
-    ensures printed { (images : List Image) → SaysBy source.entry (F.state folder.old).stands images → result ≡ Ok true
-        → AppendsCounts (form_of query.entry.json query.entry.csv) query.entry.level images (W.contents writer.old) (W.contents writer.new) }
+    requires few { levels_of task.source ≤ HIGHEST_LEVEL + 1 }
+    requires level { IfSome task.level (λ level. level < levels_of task.source) }
+    ensures printed { (images : List Image) → SaysBy task.entry.source (F.state folder.old).stands images → result ≡ Ok true
+        → AppendsCounts task.entry.form task.entry.level images (W.contents writer.old) (W.contents writer.new) }
     ensures same { Unchanged (F.state folder.old) (F.state folder.new) }
-    ensures fault { IfErr result (IsCountsFault source.entry (F.state folder.old).stands query.entry.level) }
+    ensures fault { IfErr result (IsCountsFault task.entry.source (F.state folder.old).stands task.entry.level) }
 {
-    let form = form_of(query.json, query.csv);
-    let Some(level) = query.level else {
-        return print_levels(alloc, source, folder, form, writer);
+    let Some(level) = task.level else {
+        return print_levels(rt, alloc, task, folder, writer);
     };
-    match numbers_of(alloc, source, folder, level) {
-        Ok(numbers) => Ok(print_numbers(&numbers, form, writer)),
+    match numbers_of(rt, alloc, task.source, folder, level) {
+        Ok(numbers) => Ok(print_numbers(&numbers, task.form, writer)),
         Err(fault) => Err(fault),
     }
 }
@@ -170,8 +184,8 @@ fn load_for<T: Threads + Sync, F: Folder>(
 }
 
 /// Prints the line of each level in a folder, or the lines of the one of this number, or the refusal, all in one
-/// form. It takes memory for the levels, if they are to be verified, and
-/// four bytes for each distance.
+/// form. It takes memory for the levels, if they are to be verified, and for four bytes a pair of a value and a
+/// distance.
 pub fn run_counts<T: Threads + Sync, F: Folder, W: Remarks>(
     rt: &T,
     alloc: Global,
@@ -184,7 +198,7 @@ pub fn run_counts<T: Threads + Sync, F: Folder, W: Remarks>(
     ensures found { result ≡ 0 → PrintsCountsBy query.entry.unverified (form_of query.entry.json query.entry.csv) (F.state folder.old).stands query.entry.level (W.contents writer.old) (W.contents writer.new) }
 {
     if query.unverified {
-        return run_counts_said(alloc, folder, query, writer);
+        return run_counts_said(rt, alloc, folder, query, writer);
     }
     let shelf = match load_for(rt, alloc, folder, query.level) {
         Ok(shelf) => shelf,
@@ -192,15 +206,20 @@ pub fn run_counts<T: Threads + Sync, F: Folder, W: Remarks>(
     };
     // For the proof: the levels are a shelf.
     let _levels = shelf.levels();
-    let source = Source::Memory(Levels::Right(&shelf));
-    match print_counts(alloc, source, folder, query, writer) {
+    let task = Task {
+        source: Source::Memory(Levels::Right(&shelf)),
+        level: query.level,
+        form: form_of(query.json, query.csv),
+    };
+    match print_counts(rt, alloc, task, folder, writer) {
         Ok(written) => status_of(written),
         Err(fault) => refuse_counts(writer, query, NoAnswer::Folder { fault }),
     }
 }
 
 /// Prints the same by what the files say.
-fn run_counts_said<F: Folder, W: Remarks>(
+fn run_counts_said<T: Threads + Sync, F: Folder, W: Remarks>(
+    rt: &T,
     alloc: Global,
     folder: &mut F,
     query: CountsQuery<'_>,
@@ -214,7 +233,12 @@ fn run_counts_said<F: Folder, W: Remarks>(
         Ok(opened) => opened,
         Err(fault) => return refuse_counts(writer, query, fault),
     };
-    match print_counts(alloc, Source::Files(opened.levels), folder, query, writer) {
+    let task = Task {
+        source: Source::Files(opened.levels),
+        level: query.level,
+        form: form_of(query.json, query.csv),
+    };
+    match print_counts(rt, alloc, task, folder, writer) {
         Ok(written) => status_of(written),
         Err(fault) => refuse_counts(writer, query, NoAnswer::Folder { fault }),
     }

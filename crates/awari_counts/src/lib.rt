@@ -6,9 +6,10 @@
 //!
 //!     pub(crate) fn count_cell(counts: &mut Vec<u32>, cell: usize)
 //!         requires inside { cell < vec_len counts.old }
-//!         requires few { slice_index counts.old.items cell < 4294967295 }
+//!         requires few { sum counts.old.items < 4294967295 }
 //!         ensures long { vec_len counts.new ≡ vec_len counts.old }
 //!         ensures more { counts.new.items ≡ slice_set counts.old.items cell (slice_index counts.old.items cell + 1) }
+//!         ensures all { sum counts.new.items ≡ sum counts.old.items + 1 }
 //!     {
 //!         counts[cell] += 1;
 //!     }
@@ -21,8 +22,8 @@ mod pairs;
 mod ranges;
 mod rows;
 mod shown;
+mod sums;
 mod tables;
-mod tallies;
 
 pub use counts::run_counts;
 pub use laws::{counts_come_to_the_size, pairs_come_to_the_size};

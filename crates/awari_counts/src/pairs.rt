@@ -6,26 +6,24 @@ ghost use Rattle.awari_facts.specs.Sources.{IsSaidOf, images_of, limit_of};
 ghost use Rattle.awari_folder.specs.Contents.{Same};
 ghost use Rattle.awari_folder.specs.State.{Unchanged};
 ghost use Rattle.awari_places.specs.Places.{Says};
-ghost use Rattle.awari_rank.specs.Rank.{size_of};
 ghost use Rattle.awari_rank.specs.Tuples.{tuples};
 ghost use Rattle.awari_table.specs.declared.TheConstants.{HIGHEST_LEVEL};
 ghost use Rattle.awari_table.specs.declared.images.Image.{Image};
 ghost use Rattle.awari_counts.specs.Pairs.{PrintsPairsBy, header_of, pair_lines};
-ghost use Rattle.awari_counts.specs.Tables.{AreTabled, IsOwn, cells_of, wrong_limit};
+ghost use Rattle.awari_counts.specs.Tables.{AreTabled, IsOwn, cells_of};
 ghost use Rattle.awari_counts.specs.Asking.{IsHeldFault, IsPairsFault, IsReadFault, IsRefused, IsWish};
 
 use crate::cells::count_on;
 use crate::ranges::width_of;
 use crate::rows::{Placed, Row, print_row};
 use crate::shown::Names;
-use crate::tables::{CellTable, count_own, wrong_limit};
+use crate::tables::{CellTable, count_own, table_of};
 use awari_answers::{NoAnswer, Remarks, print, refuse_level, status_of};
 use awari_facts::{Levels, is_own, levels_in, limit_on, load_to, open_to};
 use awari_folder::{Folder, FolderFault};
 use awari_members::{Form, form_of};
 use awari_places::{limit_in_header, read_levels};
 use awari_queries::{CountsQuery, NoColumn, Pair, asked_pair};
-use awari_rank::size;
 use std::alloc::Global;
 use std::io::Write;
 use std::thread::Threads;
@@ -78,23 +76,6 @@ fn print_table<W: Write>(counts: &[u32], table: CellTable, form: Form, writer: &
     true
 }
 
-/// What is counted of a level with this limit. It is refused as 83 with V7 if the limit is above the number of
-/// boards: a distance is below that. Condition: the level is at most 24.
-fn table_of(wish: Wish, limit: u32) -> Result<CellTable, FolderFault>
-    requires { wish.level ≤ HIGHEST_LEVEL }
-    ensures table { IfOk result (λ table. table ≡ record { level = wish.level; pair = wish.pair; limit = limit }) }
-    ensures fault { IfErr result (λ fault. (fault ≡ wrong_limit wish.level) × (size_of wish.level < limit)) }
-{
-    if limit > size(wish.level) {
-        return Err(wrong_limit(wish.level));
-    }
-    Ok(CellTable {
-        level: wish.level,
-        pair: wish.pair,
-        limit,
-    })
-}
-
 /// Prints the boards of a level in memory by two columns, and says whether the writer took that. Condition: the
 /// level is there. It takes memory for four bytes a pair of numbers, and for a segment of boards. It is refused
 /// as [`count_on`] is, and as 83 with V7 if the limit is above the number of boards.
@@ -111,7 +92,7 @@ fn print_pairs_on<T: Threads + Sync, W: Write>(
 {
     // For the proof: there are at most 25 levels.
     let _levels = levels_in(levels);
-    let table = table_of(wish, limit_on(levels, wish.level))?;
+    let table = table_of(wish.level, wish.pair, limit_on(levels, wish.level))?;
     let counts = count_on(rt, alloc, levels, table)?;
     Ok(print_table(counts.as_slice(), table, wish.form, writer))
 }
@@ -134,7 +115,7 @@ fn print_own_pairs<F: Folder, W: Write>(
     ensures fault { IfErr result (IsPairsFault wish (F.state folder.old).stands) }
 {
     let limit = limit_in_header(folder, wish.level)?;
-    let table = table_of(wish, limit)?;
+    let table = table_of(wish.level, wish.pair, limit)?;
     let counts = count_own(alloc, folder, table)?;
     Ok(print_table(counts.as_slice(), table, wish.form, writer))
 }

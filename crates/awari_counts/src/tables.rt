@@ -1,6 +1,6 @@
 //! How many boards of a level have each pair of numbers of two columns.
 
-ghost use Rattle.std.specs.Prelude.{◌≡◌, ◌<◌, ◌≤◌, ◌+◌, ◌^◌, ℕ, List, IfErr, IfOk, IfSome, IsNone, OnErr, slice_index, slice_set, vec_len};
+ghost use Rattle.std.specs.Prelude.{◌≡◌, ◌<◌, ◌≤◌, ◌+◌, ◌^◌, ℕ, List, IfErr, IfOk, IfSome, IsNone, OnErr, slice_index, slice_set, sum, vec_len};
 ghost use Rattle.awari_facts.specs.Numbers.{IsAt};
 ghost use Rattle.awari_folder.specs.State.{Unchanged};
 ghost use Rattle.awari_places.specs.Places.{Says};
@@ -8,7 +8,7 @@ ghost use Rattle.awari_rank.specs.Rank.{size_of};
 ghost use Rattle.awari_rank.specs.Tuples.{tuples};
 ghost use Rattle.awari_table.specs.declared.TheConstants.{HIGHEST_LEVEL};
 ghost use Rattle.awari_table.specs.declared.images.Image.{Image};
-ghost use Rattle.awari_counts.specs.Tables.{AreTabled, IsCell, IsCellOf, IsCountFault, IsOwn, cells_of, wrong_limit};
+ghost use Rattle.awari_counts.specs.Tables.{AreTabled, IsCell, IsCellOf, IsCountFault, IsOwn, IsSized, cells_of, wrong_limit};
 
 use crate::ranges::{place_of, width_of};
 use awari_facts::{Seen, own_number};
@@ -28,6 +28,20 @@ pub(crate) struct CellTable {
     pub(crate) pair: Pair,
     /// The limit.
     pub(crate) limit: u32,
+}
+
+/// What is counted of a level with this limit. It is refused as 83 with V7 if the limit is above the number of
+/// boards: a distance is below that. Condition: the level is at most 24.
+pub(crate) fn table_of(level: u8, pair: Pair, limit: u32) -> Result<CellTable, FolderFault>
+    requires { level ≤ HIGHEST_LEVEL }
+    ensures table { IfOk result (λ table. table ≡ record { level = level; pair = pair; limit = limit }) }
+    ensures few { IfOk result (λ table. limit ≤ size_of level) }
+    ensures fault { IfErr result (λ fault. (fault ≡ wrong_limit level) × (size_of level < limit)) }
+{
+    if limit > size(level) {
+        return Err(wrong_limit(level));
+    }
+    Ok(CellTable { level, pair, limit })
 }
 
 /// No board in any of so many cells. It takes memory for four bytes a cell, and is refused as 84 if that is not
@@ -95,12 +109,13 @@ fn own_cell(table: CellTable, seen: &Seen) -> Result<usize, FolderFault>
     }
 }
 
-/// One board more in a cell.
+/// One board more in a cell. Conditions: the cell is there, and fewer than 2^32 - 1 boards were counted.
 pub(crate) fn count_cell(counts: &mut Vec<u32>, cell: usize)
     requires inside { cell < vec_len counts.old }
-    requires few { slice_index counts.old.items cell < 4294967295 }
+    requires few { sum counts.old.items < 4294967295 }
     ensures long { vec_len counts.new ≡ vec_len counts.old }
     ensures more { counts.new.items ≡ slice_set counts.old.items cell (slice_index counts.old.items cell + 1) }
+    ensures all { sum counts.new.items ≡ sum counts.old.items + 1 }
 {
     counts[cell] += 1;
 }
@@ -117,8 +132,10 @@ pub(crate) fn count_own<F: Folder>(
     requires own { IsOwn table.pair }
     requires level { table.level ≤ HIGHEST_LEVEL }
     ensures long { IfOk result (λ counts. vec_len counts ≡ cells_of table) }
+    ensures few { IfOk result (λ counts. sum counts.items ≤ 4294967295) }
     ensures counted { (levels : ℕ) (images : List Image) → Says (F.state folder.old).stands levels images → table.level < levels
         → IfOk result (λ counts. AreTabled images table (tuples 12 table.level) counts.items) }
+    ensures sized { (levels : ℕ) (images : List Image) → Says (F.state folder.old).stands levels images → table.level < levels → IfOk result (λ counts. IsSized images table.level) }
     ensures same { Unchanged (F.state folder.old) (F.state folder.new) }
     ensures fault { IfErr result (IsCountFault table (F.state folder.old).stands) }
 {

@@ -10,7 +10,7 @@ use Rattle.awari_counts.specs.Counts.{shown_levels}
 use Rattle.awari_counts.proofs.counts.print_levels.Goals as goal
 
 pub loop-number-init : goal.loop-number-init
-loop-number-init g c = record { unchanged = unchanged _; lines = λ images says. level-none c.args.form images _ _ (c.print_names.ensures c.if-not-print_names.false) }
+loop-number-init g c = record { unchanged = unchanged _; lines = λ images says. level-none c.args.task.form images _ _ (c.print_names.ensures c.if-not-print_names.false) }
 
 pub loop-number-preserved : goal.loop-number-preserved
 loop-number-preserved g c =
@@ -18,16 +18,16 @@ loop-number-preserved g c =
     record {
       unchanged = unchanged_then _ _ _ i.unchanged c.in_ok-numbers.ensures.same;
       lines = λ images says.
-          level-line c.args.form images c.loop-number.number c.in_ok-numbers.numbers _ _ _ (c.in_ok-numbers.ensures.said images (says_still c.args.source _ _ images i.unchanged.stands says)) (i.lines images says)
+          level-line c.args.task.form images c.loop-number.number c.in_ok-numbers.numbers _ _ _ (c.in_ok-numbers.ensures.said images (says_still c.args.task.source _ _ images i.unchanged.stands says)) (i.lines images says)
           (c.print_level.ensures c.if-not-print_level.false);
     }
 
 pub returns-clause-printed : goal.returns-clause-printed
 returns-clause-printed g c = λ images says done.
-    subst (λ xs. Appends (g.W.Write.contents c.args.writer.now) (g.W.Write.contents c.loop-number.writer) (shown_levels c.args.form xs))
-    (take_all c.loop-number.number images (omega (arith, levels_by c.args.source _ images says, c.count_levels-number-end.ensures))) (c.loop-number.invariant.lines images says)
+    subst (λ xs. Appends (g.W.Write.contents c.args.writer.now) (g.W.Write.contents c.loop-number.writer) (shown_levels c.args.task.form xs))
+    (take_all c.loop-number.number images (omega (arith, levels_by c.args.task.source _ images says, c.count_levels-number-end.ensures))) (c.loop-number.invariant.lines images says)
 
 pub returns-in_err-numbers-clause-fault : goal.returns-in_err-numbers-clause-fault
 returns-in_err-numbers-clause-fault g c =
     err_same c.from_residual.result _ _ c.from_residual.ensures.1
-    (counts_still c.args.source _ _ c.loop-number.number _ (omega (arith, c.loop-number-test.true, c.count_levels-number-end.ensures)) c.loop-number.invariant.unchanged.stands c.in_err-numbers.ensures.fault)
+    (counts_still c.args.task.source _ _ c.loop-number.number _ (omega (arith, c.loop-number-test.true, c.count_levels-number-end.ensures)) c.loop-number.invariant.unchanged.stands c.in_err-numbers.ensures.fault)

@@ -9,5 +9,5 @@ use Rattle.awari_counts.proofs.counts.print_levels.Given as goal
 abbrev pub invariant-loop-number : goal.invariant-loop-number
 invariant-loop-number g l = record {
   unchanged : Unchanged (g.F.Folder.state l.fn.folder) (g.F.Folder.state l.folder);
-  lines : (images : List Image) → SaysBy l.source (g.F.Folder.state l.fn.folder).stands images → Appends (g.W.Write.contents l.fn.writer) (g.W.Write.contents l.writer) (shown_levels l.form (take l.number images));
+  lines : (images : List Image) → SaysBy l.task.source (g.F.Folder.state l.fn.folder).stands images → Appends (g.W.Write.contents l.fn.writer) (g.W.Write.contents l.writer) (shown_levels l.task.form (take l.number images));
 }

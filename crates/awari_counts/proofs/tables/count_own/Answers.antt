@@ -4,16 +4,19 @@ use Rattle.awari_places.proofs.Reading.{still_says}
 use Rattle.awari_places.proofs.Running.{fault_before, run-none}
 use Rattle.awari_play.proofs.Lasting.{err_same}
 use Rattle.awari_rank.specs.Rank.{size_of}
-use Rattle.awari_counts.proofs.CellLaws.{tabled-all, tabled-more, tabled-none, few-more}
+use Rattle.awari_counts.proofs.CellLaws.{tabled-all, tabled-more, tabled-none}
+use Rattle.awari_counts.proofs.LaneLaws.{sum-zeros}
+use Rattle.awari_counts.proofs.TallyLaws.{sized_said}
 use Rattle.awari_facts.proofs.RankLaws.{some_entry}
 use Rattle.awari_counts.proofs.tables.count_own.Goals as goal
 
 pub loop-rank-init : goal.loop-rank-init
 loop-rank-init g c = record {
   long = c.in_ok-counts.ensures.long;
-  few = λ k. omega (arith, c.in_ok-counts.ensures.zeros k);
+  few = omega (arith, sum-zeros c.in_ok-counts.counts.items c.in_ok-counts.ensures.zeros);
   unchanged = unchanged _;
   counted = λ levels images says low. (run-none images c.args.table.level c.new-run.result c.new-run.ensures, tabled-none images c.args.table c.in_ok-counts.counts.items c.in_ok-counts.ensures.zeros);
+  sized = λ some. absurd (omega (arith, some));
 }
 
 pub loop-rank-preserved : goal.loop-rank-preserved
@@ -24,7 +27,7 @@ loop-rank-preserved g c =
     let inside : c.in_ok-cell.cell < length c.loop-rank.counts.items = omega (arith, c.in_ok-cell.ensures.inside, i.long, c.loop-rank.counts.ok.0) in
     record {
       long = omega (arith, i.long, c.count_cell.ensures.long);
-      few = few-more c.loop-rank.counts.items c.count_cell.new.counts.items c.in_ok-cell.cell c.loop-rank.rank inside c.count_cell.ensures.more i.few;
+      few = omega (arith, i.few, c.count_cell.ensures.all);
       unchanged = unchanged_then _ _ _ i.unchanged c.in_ok-entry.ensures.same;
       counted = λ levels images says low.
           let before = i.counted levels images says low in
@@ -34,7 +37,16 @@ loop-rank-preserved g c =
             c.in_ok-entry.ensures.run levels images still low before.0,
             tabled-more images c.args.table c.loop-rank.rank board c.loop-rank.counts.items c.count_cell.new.counts.items c.in_ok-cell.cell before.1 at.listed own inside c.count_cell.ensures.more,
           );
+      sized = λ some levels images says low.
+          let still = still_says _ _ levels images i.unchanged.stands says in
+          sized_said _ levels c.args.table.level c.loop-rank.rank images c.in_ok-entry.entry still low (c.in_ok-entry.ensures.entry levels images still low (i.counted levels images says low).0);
     }
+
+pub returns-clause-few : goal.returns-clause-few
+returns-clause-few g c = omega (arith, c.loop-rank.invariant.few)
+
+pub returns-clause-sized : goal.returns-clause-sized
+returns-clause-sized g c = λ levels images says low. c.loop-rank.invariant.sized (omega (arith, c.size-rank-end.ensures.some)) levels images says low
 
 pub returns-clause-counted : goal.returns-clause-counted
 returns-clause-counted g c = λ levels images says low.
