@@ -182,10 +182,10 @@ class _Sentence(ctypes.Structure):
     _fields_ = [("text", ctypes.c_char_p), ("size", ctypes.c_size_t)]
 
 
-_ENTRY = Struct("<bBxxI")
-_MOVE = Struct("<?BhI")
-_DRAFT = Struct("<QB?6x")
-_COUNTS = Struct("<IIII")
+_ENTRY = Struct("=bBxxI")
+_MOVE = Struct("=?BhI")
+_DRAFT = Struct("=QB?6x")
+_COUNTS = Struct("=IIII")
 _HEADER_BYTES = 52
 _ENTRY_BYTES = 6
 _DIGEST_BYTES = 32
@@ -561,7 +561,7 @@ class Levels(_Answers):
         import numpy
 
         rows = _pits_of(boards)
-        found = numpy.empty(len(rows), _entry_type("<"))
+        found = numpy.empty(len(rows), _entry_type("="))
         told = ctypes.c_size_t()
         with self.share() as own:
             _expect(_awari_long.awari_probe_many(own._at, rows.ctypes.data, len(rows), found.ctypes.data, len(found), ctypes.addressof(told)))
@@ -838,7 +838,7 @@ class Mapped(_Answers):
 
         rows = _pits_of(boards)
         levels, ranks = rank_many(rows)
-        found = numpy.empty(len(rows), _entry_type("<"))
+        found = numpy.empty(len(rows), _entry_type("="))
         for level in numpy.unique(levels):
             here = levels == level
             found[here] = self.entries(int(level))[ranks[here]]
@@ -873,7 +873,9 @@ def _numbers(found: _Array) -> dict[int, int]:
 
 def _map(path: Path, level: int) -> mmap.mmap | bytes:
     """The bytes of a level's file, where they lie. A pipe is not waited for, since it is no file."""
-    descriptor = os.open(path, os.O_RDONLY | os.O_NONBLOCK | os.O_CLOEXEC)
+    # Windows has other flags, and nobody inherits a file there.
+    flags = sum(getattr(os, name, 0) for name in ("O_NONBLOCK", "O_CLOEXEC", "O_BINARY"))
+    descriptor = os.open(path, os.O_RDONLY | flags)
     try:
         state = os.fstat(descriptor)
         if not stat.S_ISREG(state.st_mode):
@@ -882,8 +884,10 @@ def _map(path: Path, level: int) -> mmap.mmap | bytes:
             return b""
         # An address is given of what may be written alone. What is written so stays in this process, and what is
         # handed on of these bytes is read only.
-        flags = mmap.MAP_PRIVATE | getattr(mmap, "MAP_NORESERVE", 0)
         try:
+            if not hasattr(mmap, "MAP_PRIVATE"):
+                return mmap.mmap(descriptor, state.st_size, access=mmap.ACCESS_COPY)
+            flags = mmap.MAP_PRIVATE | getattr(mmap, "MAP_NORESERVE", 0)
             return mmap.mmap(descriptor, state.st_size, flags, mmap.PROT_READ | mmap.PROT_WRITE)
         except OSError:
             raise Refused(81, _Fault(level, 68)) from None
@@ -970,7 +974,7 @@ def _entry_type(order: str) -> Any:
 
     if order == ">":
         return numpy.dtype([("value", "i1"), ("plan", "u1"), ("distance", ">u4")])
-    return numpy.dtype([("value", "i1"), ("plan", "u1"), ("distance", "<u4")], align=True)
+    return numpy.dtype([("value", "i1"), ("plan", "u1"), ("distance", "=u4")], align=True)
 
 
 def _pits_of(boards: ArrayLike) -> _Array:

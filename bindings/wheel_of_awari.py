@@ -1,7 +1,8 @@
 """Packs the Python module with the shared library beside it: a wheel, an editable one, or an sdist.
 
-The library is the one that `bindings/make` left beside this file, or else the one that release/ ships. So
-nothing is compiled, and nothing is fetched.
+On Linux for x86-64 and 64-bit ARM, with glibc 2.34 or later, the library is the one that `bindings/make` left beside this file, or
+else the one that release/ ships. So nothing is compiled. Elsewhere the machine's C compiler makes it of portable/; so
+it does if the environment's AWARI_PORTABLE is 1. CC may name the compiler. Nothing is fetched.
 
 The module is one file in the sources, and a package of one file where it is installed: a single module
 can't say that it is typed, and a stub would say each hint twice. So its name and its imports are the same
@@ -12,9 +13,15 @@ import gzip
 import hashlib
 import io
 import lzma
+import os
 import platform
 import re
+import shlex
+import shutil
+import subprocess
+import sysconfig
 import tarfile
+import tempfile
 import zipfile
 from pathlib import Path
 
@@ -22,9 +29,13 @@ HERE = Path(__file__).resolve().parent
 RELEASE = HERE.parent / "release"
 LIBRARY = "libawari.so.0"
 MACHINE = platform.machine()
-TAG = f"py3-none-linux_{MACHINE}"
+PACKED = RELEASE / f"libawari-{MACHINE}.tar.xz"
+TAG = f"py3-none-{re.sub('[-.]', '_', sysconfig.get_platform())}"
+# what is compiled elsewhere
+PORTABLE = ("portable/awari_portable.c", "portable/machine.h", "portable/module.c")
 # what an sdist takes along beside the library and the license
-SOURCES = ("pyproject.toml", "wheel_of_awari.py", "awari.py", "awari.h")
+SOURCES = ("pyproject.toml", "wheel_of_awari.py", "awari.py", "awari.h", *PORTABLE)
+OLDEST_GLIBC = (2, 34)
 # git ignores this folder
 LINKS = HERE / "build" / "editable"
 
@@ -36,19 +47,42 @@ def manifest():
     return dict(line.split(" ", 1) for line in (RELEASE / "MANIFEST").read_text().splitlines())
 
 
+def runs_shipped():
+    """Whether this machine runs the library that release/ ships."""
+    name, release = platform.libc_ver()
+    is_glibc = name == "glibc" and tuple(map(int, release.split("."))) >= OLDEST_GLIBC
+    return platform.system() == "Linux" and MACHINE in ("x86_64", "aarch64") and is_glibc
+
+
+def compiled():
+    """The bytes of the shared library that the machine's C compiler makes of portable/."""
+    given = os.environ.get("CC")
+    compilers = [shlex.split(given)] if given else [[name] for name in ("cc", "gcc", "clang")]
+    words = next((words for words in compilers if shutil.which(words[0])), None)
+    if words is None:
+        raise SystemExit(f"there is no C compiler, which this machine needs: {', '.join(it[0] for it in compilers)}")
+    system = [] if os.name == "nt" else ["-fPIC", "-pthread"]
+    with tempfile.TemporaryDirectory() as room:
+        made = Path(room) / LIBRARY
+        subprocess.run([*words, "-O2", "-shared", *system, f"-I{HERE}", "-o", str(made), str(HERE / PORTABLE[0])], check=True)
+        return made.read_bytes()
+
+
 def library():
     """The bytes of the shared library."""
+    return compiled() if os.environ.get("AWARI_PORTABLE") == "1" or not runs_shipped() else shipped()
+
+
+def shipped():
+    """The bytes of the library that release/ ships, or that lies beside this file."""
     built = HERE / LIBRARY
     if built.exists():
         return built.read_bytes()
-    packed = RELEASE / f"libawari-{MACHINE}.tar.xz"
-    if not packed.exists():
-        raise SystemExit(f"no library is shipped for {platform.system()} on {MACHINE}: see README, \"Other machines\"")
-    with lzma.open(packed) as unpacked, tarfile.open(fileobj=unpacked) as files:
-        shipped = files.extractfile(LIBRARY).read()
-    if hashlib.sha256(shipped).hexdigest() != manifest()[f"library-{MACHINE}"]:
-        raise SystemExit(f"release/{packed.name} is not the library that release/MANIFEST names")
-    return shipped
+    with lzma.open(PACKED) as unpacked, tarfile.open(fileobj=unpacked) as files:
+        found = files.extractfile(LIBRARY).read()
+    if hashlib.sha256(found).hexdigest() != manifest()[f"library-{MACHINE}"]:
+        raise SystemExit(f"release/{PACKED.name} is not the library that release/MANIFEST names")
+    return found
 
 
 def license_text():
@@ -138,10 +172,10 @@ def build_editable(wheel_directory, config_settings=None, metadata_directory=Non
 # ---- the sdist
 
 def build_sdist(sdist_directory, config_settings=None):
-    """An archive of which a wheel can be made anywhere: the library lies in it as `bindings/make` leaves it."""
+    """An archive of which a wheel can be made anywhere: what is compiled lies in it, and the library that is shipped."""
     about = f"awari-{version()}"
     files = {name: (HERE / name).read_bytes() for name in SOURCES}
-    files |= {LIBRARY: library(), "LICENSE": license_text(), "PKG-INFO": metadata()}
+    files |= {LIBRARY: shipped(), "LICENSE": license_text(), "PKG-INFO": metadata()}
     name = f"{about}.tar.gz"
     # without a time, so that one module gives one archive
     with gzip.GzipFile(Path(sdist_directory) / name, "wb", mtime=0) as packed, tarfile.open(fileobj=packed, mode="w") as sdist:

@@ -468,6 +468,7 @@ def try_packed(room):
     (room / "again").mkdir()
     with tarfile.open(room / wheel_of_awari.build_sdist(room)) as sdist:
         for member in sdist.getmembers():
+            (room / member.name).parent.mkdir(exist_ok=True)
             (room / member.name).write_bytes(sdist.extractfile(member).read())
     packer = backend_of(room / about)
     expect("the wheel of an sdist", (room / "again" / packer.build_wheel(room / "again")).read_bytes(), wheel.read_bytes())
