@@ -2,7 +2,8 @@
  * machine with bindings/portable. This header is for C99 and C++11, and later.
  *
  * What an engine calls: awari_open once, awari_share for each thread, awari_probe_value in the search,
- * awari_probe_moves at the root, and awari_close. The module for pages has all calls but those under "Folders".
+ * awari_probe_moves at the root, and awari_close. The module for pages has all calls but those under "Folders"
+ * and under "in parts".
  *
  * A call answers AWARI_OK, which is 0, or why it refuses. After a refusal nothing has changed but what is
  * said here. A board is the stones of its twelve pits, the mover's six first. A pit is 0 to 5.
@@ -151,7 +152,7 @@ typedef struct {
 
 /* Puts the next level on, level 0 first, if these bytes are its file and it is right. Else 80, 81, 83, 84
  * or 86, with more in `fault`; a closed handle is still closed then. It takes three bytes a board. The
- * caller's bytes are free afterwards. A level that was begun is given up. */
+ * caller's bytes are free afterwards. A level that was begun or read is given up. */
 uint8_t awari_add_level(awari_handle *handle, const uint8_t *bytes, size_t len, awari_fault *fault);
 
 /* How many levels there are. */
@@ -199,9 +200,38 @@ static inline uint8_t awari_share(awari_handle *from, awari_handle *to) {
     return from == to ? (uint8_t)AWARI_OK : awari_share_with(from, to);
 }
 
-/* Gives the levels back, if no other handle has them, and a level that was begun. The handle is closed then, and
+/* Gives the levels back, if no other handle has them, and a level that was begun or read. The handle is closed then, and
  * may be used anew. */
 void awari_close(awari_handle *handle);
+
+/* ---- The next level's file, read, and then verified in parts, by as many threads as the caller has. Each has a
+ * handle by awari_share, looks at some parts, and its handle is joined to the first; that one accepts the level.
+ * Whatever they leave out is looked at then. awari_open_by does all this. */
+
+enum { AWARI_PARTS = 1601 };
+
+/* Reads the next level's file, in place of one that was read: 0, or 80, 81, 84 or 86 as awari_add_level. Nothing is
+ * verified yet, and no board of it is answered. It takes three bytes a board. The caller's bytes are free afterwards.
+ * awari_share lets the other handle have it too, and what was looked at of it. */
+uint8_t awari_read_level(awari_handle *handle, const uint8_t *bytes, size_t len, awari_fault *fault);
+
+/* Looks at a part, from 0 on, in any order and as often as one likes: 0, 59 if no file was read, or 93 if there are
+ * fewer parts. Part 0 is the file's digest. Takes no memory. */
+uint8_t awari_look(awari_handle *handle, uint32_t part);
+
+/* Lets `to` know what `from` has looked at: 0, or 59 if not both have read a file of the same digest. The two are
+ * apart, and have it by awari_share, one of the other or both of a third. Takes no memory. */
+uint8_t awari_join_with(awari_handle *from, awari_handle *to);
+
+/* The same, and nothing if the two are one. */
+static inline uint8_t awari_join(awari_handle *from, awari_handle *to) {
+    return from == to ? (uint8_t)AWARI_OK : awari_join_with(from, to);
+}
+
+/* Puts the level on that was read, if it is right. Else 81, 83 or 84, with more in `fault`, or 59 if none was read. Then
+ * none is read, in each case; a level that was begun is given up with 0. While another handle has it too, it takes
+ * three bytes a board more. */
+uint8_t awari_accept(awari_handle *handle, awari_fault *fault);
 
 /* ---- The next level, built a slice at a time: it is right, and has the lowest plans. Meanwhile the others answer */
 
@@ -250,7 +280,7 @@ uint8_t awari_probe_moves_files(const awari_file *files, size_t count, const uin
  * board, for the time of the call. */
 uint8_t awari_check_file(const uint8_t *bytes, size_t len, const uint8_t below[32], uint8_t digest[32]);
 
-/* ---- Folders. These three are not in the library, but in open.c beside this header, for POSIX systems.
+/* ---- Folders. These four are not in the library, but in open.c beside this header, for POSIX systems.
  * `fault` may be NULL here. */
 
 typedef struct {
@@ -262,6 +292,10 @@ typedef struct {
  * closed handle: 0, or as awari_add_level and awari_map refuse, and the handle is closed then. It maps the
  * files meanwhile. */
 uint8_t awari_open(const char *folder, unsigned most, awari_handle *handle, awari_fault *fault);
+
+/* The same by this many threads, of which the caller's is one: 0 counts as 1, and more than 64 as 64. If a thread can't
+ * be started, the others do its work. */
+uint8_t awari_open_by(const char *folder, unsigned most, unsigned threads, awari_handle *handle, awari_fault *fault);
 
 /* Maps the files of these levels: 0, 82 (the folder, or a file, does not open or is none; that of level 0 is not
  * there), or 81 with 68 (a file is not mapped), and none is mapped then. It verifies nothing. */

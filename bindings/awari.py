@@ -27,7 +27,7 @@ import threading
 from math import comb
 from pathlib import Path
 from struct import Struct
-from typing import TYPE_CHECKING, Any, NamedTuple, Sequence, TypeVar, Union
+from typing import TYPE_CHECKING, Any, Iterator, NamedTuple, Sequence, TypeVar, Union
 
 if TYPE_CHECKING:
     from numpy.typing import ArrayLike, NDArray
@@ -192,6 +192,8 @@ _DIGEST_BYTES = 32
 # A slice of this many boards takes some 20 milliseconds.
 _SLICE = 100_000
 _LIMIT = Struct(">16xI")
+# A level is verified in this many parts, and below this one by one thread.
+_PARTS, _FIRST_SHARED = 1601, 5
 # No level has a greater limit: docs/levels.csv.
 _GREATEST_LIMIT = 194
 
@@ -224,12 +226,16 @@ _CALLS: dict[str, tuple[Any, list[Any]]] = {
     "awari_line": (_BYTE, [_AT, _AT, _AT, _SIZE, _AT]),
     "awari_longest_line": (_BYTE, [_AT, _AT, _AT, _SIZE, _AT]),
     "awari_share_with": (_BYTE, [_AT, _AT]),
+    "awari_join_with": (_BYTE, [_AT, _AT]),
     "awari_close": (None, [_AT]),
     "awari_probe_file": (_BYTE, [_AT, _SIZE, _AT, _AT]),
     "awari_probe_moves_files": (_BYTE, [_AT, _SIZE, _AT, _AT]),
 }
 _LONG_CALLS: dict[str, tuple[Any, list[Any]]] = {
     "awari_add_level": (_BYTE, [_AT, _AT, _SIZE, _AT]),
+    "awari_read_level": (_BYTE, [_AT, _AT, _SIZE, _AT]),
+    "awari_look": (_BYTE, [_AT, ctypes.c_uint32]),
+    "awari_accept": (_BYTE, [_AT, _AT]),
     "awari_probe_many": (_BYTE, [_AT, _AT, _SIZE, _AT, _SIZE, _AT]),
     "awari_counts": (_BYTE, [_AT, _BYTE, _AT]),
     "awari_begin": (_BYTE, [_AT]),
@@ -448,27 +454,73 @@ class _Answers:
         raise NotImplementedError
 
 
+def _add(handle: _Handle, file: _File, threads: int, fault: _Fault) -> None:
+    """Puts the next level on, verified by so many threads. What they leave out, this one looks at last."""
+    at, fault_at = ctypes.addressof(handle), ctypes.addressof(fault)
+    if threads == 1:
+        _expect(_awari_long.awari_add_level(at, file.bytes, file.len, fault_at), fault)
+        return
+    _expect(_awari_long.awari_read_level(at, file.bytes, file.len, fault_at), fault)
+    parts = iter(range(_PARTS))
+    turn = threading.Lock()
+    helpers: list[tuple[threading.Thread, _Handle]] = []
+    try:
+        for _ in range(threads - 1):
+            own = _Handle()
+            _expect(_awari.awari_share_with(at, ctypes.addressof(own)))
+            helper = threading.Thread(target=_look, args=(own, parts, turn))
+            helpers.append((helper, own))
+            helper.start()
+        _look(handle, parts, turn)
+    except (Refused, RuntimeError):
+        # A thread that can't be started is missed by nobody.
+        _look(handle, parts, turn)
+    finally:
+        for helper, own in helpers:
+            if helper.ident is not None:
+                helper.join()
+            _awari.awari_join_with(ctypes.addressof(own), at)
+            _awari.awari_close(ctypes.addressof(own))
+    _expect(_awari_long.awari_accept(at, fault_at), fault)
+
+
+def _look(handle: _Handle, parts: Iterator[int], turn: threading.Lock) -> None:
+    """Takes parts in turn, and looks at each, until none is left."""
+    while True:
+        with turn:
+            part = next(parts, None)
+        if part is None:
+            return
+        _awari_long.awari_look(ctypes.addressof(handle), part)
+
+
 class Levels(_Answers):
     """The levels of a folder, each verified: level 0 up to the first whose file is not there.
 
-    With `most`, levels of more stones are not read. A folder without level 0 is refused as 82. Any number of
-    threads may ask at once, also while one of them builds the next level.
+    With `most`, levels of more stones are not read. With `threads`, as many threads verify them. A folder without
+    level 0 is refused as 82. Any number of threads may ask at once, also while one of them builds the next level.
 
     >>> len(Levels("levels", most=4))
     5
+    >>> len(Levels("levels", threads=4))
+    7
     """
 
     _at: int | None = None
     _draft: Levels | None = None
 
-    def __init__(self, folder: _Folder, most: int = HIGHEST_LEVEL):
+    def __init__(self, folder: _Folder, most: int = HIGHEST_LEVEL, threads: int = 1):
+        threads = _whole(threads, "the threads are a whole number")
+        if threads < 1:
+            raise ValueError(f"there is 1 thread or more, and not {threads}")
         with Mapped(folder, most) as files:
             handle, fault = _Handle(), _Fault()
-            for file in files._files:
-                answer = _awari_long.awari_add_level(ctypes.addressof(handle), file.bytes, file.len, ctypes.addressof(fault))
-                if answer:
-                    _awari.awari_close(ctypes.addressof(handle))
-                _expect(answer, fault)
+            try:
+                for level, file in enumerate(files._files):
+                    _add(handle, file, threads if level >= _FIRST_SHARED else 1, fault)
+            except BaseException:
+                _awari.awari_close(ctypes.addressof(handle))
+                raise
         self._hold(handle)
 
     def _hold(self, handle: _Handle) -> None:

@@ -6,6 +6,7 @@
 #include "awari.h"
 #include <errno.h>
 #include <fcntl.h>
+#include <pthread.h>
 #include <stdio.h>
 #include <string.h>
 #include <sys/mman.h>
@@ -63,14 +64,83 @@ void awari_unmap(awari_files *files) {
     files->count = 0;
 }
 
-uint8_t awari_open(const char *folder, unsigned most, awari_handle *handle, awari_fault *fault) {
+/* The most threads, and the first level that is verified by more than one. */
+enum { MOST_THREADS = 64, FIRST_SHARED = 5 };
+
+/* The parts of a level, which threads take in turn. */
+typedef struct {
+    pthread_mutex_t lock;
+    uint32_t next;
+} awari_parts;
+
+typedef struct {
+    awari_handle handle;
+    awari_parts *parts;
+    pthread_t thread;
+} awari_helper;
+
+static void look_at_parts(awari_handle *handle, awari_parts *parts) {
+    uint32_t part;
+    do {
+        pthread_mutex_lock(&parts->lock);
+        part = parts->next++;
+        pthread_mutex_unlock(&parts->lock);
+    } while (part < AWARI_PARTS && !awari_look(handle, part));
+}
+
+static void *help(void *given) {
+    awari_helper *self = (awari_helper *)given;
+    look_at_parts(&self->handle, self->parts);
+    return NULL;
+}
+
+/* Has threads look at the level that was read, beside this one. What they leave out, awari_accept looks at. */
+static void look_by(awari_handle *handle, unsigned threads) {
+    awari_parts parts = {PTHREAD_MUTEX_INITIALIZER, 0};
+    awari_helper helpers[MOST_THREADS - 1];
+    unsigned started = 0;
+    memset(helpers, 0, sizeof helpers);
+    while (started + 1 < threads) {
+        awari_helper *next = &helpers[started];
+        next->parts = &parts;
+        if (awari_share(handle, &next->handle) || pthread_create(&next->thread, NULL, help, next)) {
+            awari_close(&next->handle);
+            break;
+        }
+        started++;
+    }
+    look_at_parts(handle, &parts);
+    while (started > 0) {
+        awari_helper *last = &helpers[--started];
+        pthread_join(last->thread, NULL);
+        awari_join(&last->handle, handle);
+        awari_close(&last->handle);
+    }
+    pthread_mutex_destroy(&parts.lock);
+}
+
+uint8_t awari_open_by(const char *folder, unsigned most, unsigned threads, awari_handle *handle, awari_fault *fault) {
     awari_fault unasked;
     awari_files files;
     if (!fault) fault = &unasked;
+    if (threads > MOST_THREADS) threads = MOST_THREADS;
     uint8_t answer = awari_map(folder, most, &files, fault);
-    for (size_t i = 0; i < files.count && !answer; i++)
-        answer = awari_add_level(handle, files.level[i].bytes, files.level[i].len, fault);
+    for (size_t i = 0; i < files.count && !answer; i++) {
+        const awari_file *file = &files.level[i];
+        if (threads < 2 || i < FIRST_SHARED) {
+            answer = awari_add_level(handle, file->bytes, file->len, fault);
+            continue;
+        }
+        answer = awari_read_level(handle, file->bytes, file->len, fault);
+        if (answer) break;
+        look_by(handle, threads);
+        answer = awari_accept(handle, fault);
+    }
     if (answer) awari_close(handle);
     awari_unmap(&files);
     return answer;
+}
+
+uint8_t awari_open(const char *folder, unsigned most, awari_handle *handle, awari_fault *fault) {
+    return awari_open_by(folder, most, 1, handle, fault);
 }

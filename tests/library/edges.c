@@ -182,6 +182,58 @@ static void try_built(void) {
     awari_close(&other);
 }
 
+/* Levels 0 to 2, read and then verified in parts by two handles. Some parts are left out, and some looked at twice. */
+static void try_parts(void) {
+    awari_handle handle = AWARI_CLOSED, other = AWARI_CLOSED;
+    awari_fault fault;
+    EXPECT(awari_look(&handle, 0) == AWARI_NOT_YET && awari_accept(&handle, &fault) == AWARI_NOT_YET && is_closed(&handle));
+    EXPECT(awari_join(&handle, &other) == AWARI_NOT_YET && awari_join(&handle, &handle) == AWARI_OK);
+    for (uint8_t level = 0; level < 3; level++) {
+        const awari_file *file = &files.level[level];
+        EXPECT(awari_read_level(&handle, file->bytes, file->len, &fault) == AWARI_OK && awari_levels(&handle) == level);
+        EXPECT(awari_share(&handle, &other) == AWARI_OK && awari_levels(&other) == level);
+        for (uint32_t part = level; part < AWARI_PARTS; part += 1 + level)
+            EXPECT(awari_look(part % 3 ? &handle : &other, part) == AWARI_OK);
+        EXPECT(awari_look(&handle, 800) == AWARI_OK && awari_look(&other, 800) == AWARI_OK);
+        EXPECT(awari_look(&handle, AWARI_PARTS) == AWARI_NO_RANK && awari_look(&handle, UINT32_MAX) == AWARI_NO_RANK);
+        EXPECT(awari_join(&other, &handle) == AWARI_OK && awari_join(&other, &handle) == AWARI_OK);
+        EXPECT(awari_accept(&handle, &fault) == AWARI_OK && awari_levels(&handle) == level + 1);
+        EXPECT(awari_accept(&handle, &fault) == AWARI_NOT_YET && awari_look(&handle, 0) == AWARI_NOT_YET);
+        EXPECT(awari_join(&other, &handle) == AWARI_NOT_YET && awari_levels(&other) == level);
+        EXPECT(awari_accept(&other, &fault) == AWARI_OK && awari_levels(&other) == level + 1);
+    }
+    awari_close(&other);
+    awari_close(&handle);
+}
+
+/* What is read and refused, or given up. */
+static void try_unread(void) {
+    awari_handle handle = AWARI_CLOSED, other = AWARI_CLOSED;
+    awari_fault fault;
+    uint8_t copy[156];
+    EXPECT(awari_read_level(&handle, (const uint8_t *)"AWDB", 4, &fault) == AWARI_FILE && is_closed(&handle));
+    EXPECT(fault.level == 0 && fault.inner == AWARI_TRUNCATED);
+    EXPECT(awari_read_level(&handle, files.level[1].bytes, files.level[1].len, &fault) == AWARI_BELOW && is_closed(&handle));
+    EXPECT(awari_add_level(&handle, files.level[0].bytes, files.level[0].len, &fault) == AWARI_OK);
+    EXPECT(awari_read_level(&handle, files.level[1].bytes, files.level[1].len, &fault) == AWARI_OK);
+    EXPECT(awari_read_level(&other, files.level[0].bytes, files.level[0].len, &fault) == AWARI_OK && awari_levels(&other) == 0);
+    EXPECT(awari_join(&other, &handle) == AWARI_NOT_YET && awari_join(&handle, &other) == AWARI_NOT_YET);
+    EXPECT(awari_add_level(&handle, files.level[0].bytes, files.level[0].len, &fault) == AWARI_BELOW);
+    EXPECT(awari_look(&handle, 0) == AWARI_OK); /* what was read is there still */
+    EXPECT(awari_add_level(&handle, files.level[1].bytes, files.level[1].len, &fault) == AWARI_OK);
+    EXPECT(awari_look(&handle, 0) == AWARI_NOT_YET && awari_levels(&handle) == 2);
+    EXPECT(awari_accept(&other, &fault) == AWARI_OK && awari_levels(&other) == 1);
+    memcpy(copy, files.level[1].bytes, sizeof copy);
+    copy[sizeof copy - 1] ^= 1;
+    EXPECT(awari_read_level(&other, copy, sizeof copy, &fault) == AWARI_OK);
+    for (uint32_t part = 0; part < AWARI_PARTS; part++) EXPECT(awari_look(&other, part) == AWARI_OK);
+    EXPECT(awari_accept(&other, &fault) == AWARI_FILE && fault.level == 1 && fault.inner == AWARI_DIGEST);
+    EXPECT(awari_levels(&other) == 1 && awari_accept(&other, &fault) == AWARI_NOT_YET);
+    EXPECT(awari_read_level(&other, files.level[1].bytes, files.level[1].len, &fault) == AWARI_OK);
+    awari_close(&other); /* which gives up what was read */
+    awari_close(&handle);
+}
+
 static void try_mapped(void) {
     static const awari_file empty = {(const uint8_t *)"", 0};
     awari_file cut[3], more[30]; /* more than there are levels */
@@ -296,6 +348,8 @@ int main(int argc, char **argv) {
     try_closed();
     try_levels(argv[1]);
     try_built();
+    try_parts();
+    try_unread();
     try_mapped();
     int before = opened(), own = mapped();
     try_folders(argv[2]);

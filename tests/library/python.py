@@ -32,7 +32,9 @@ from pathlib import Path
 
 TOP = Path(__file__).resolve().parents[2]
 sys.path.insert(0, str(TOP / "bindings"))
+sys.path.insert(0, str(TOP / "tests" / "library"))
 import awari  # noqa: E402
+import folders  # noqa: E402
 import wheel_of_awari  # noqa: E402
 
 BOARD = [1, 0, 0, 0, 0, 1, 1, 0, 1, 0, 0, 0]
@@ -87,6 +89,26 @@ def try_threads(levels):
     for thread in threads:
         thread.join()
     expect(f"one object in {THREADS} threads", (len(failed), failed[:1]), (0, []))
+
+
+# ---- levels that several threads verify
+
+def try_verified(room):
+    """Levels 0 to 6, and the same with entries that are wrong: any number of threads says the same."""
+    wrong = {
+        "none": [], "one": [(8000, 1, 0, 9)], "two": [(12000, 0, 255, 0), (70, 0, 255, 0)],
+        "each": [(rank, 24, 255, 0) for rank in range(0, awari.size(6), 7)],
+    }
+    for name, entries in wrong.items():
+        folder = room / f"verified_{name}"
+        shutil.copytree(TOP / "examples" / "levels", folder)
+        place = folder / folders.name_of(6)
+        for entry in entries:
+            place.write_bytes(folders.with_entry(place.read_bytes(), *entry))
+        said = [refused(lambda: len(awari.Levels(folder, threads=threads))) for threads in (1, 2, 3, 8)]
+        expect(f"levels with wrong entries, {name}, by threads", said[1:], said[:1] * 3)
+        expect(f"whether they are refused, {name}", isinstance(said[0], str), bool(entries))
+    expect("no threads", refused(lambda: awari.Levels(room, threads=0)), "ValueError there is 1 thread or more, and not 0")
 
 
 # ---- levels that are built
@@ -533,6 +555,7 @@ def main(folder):
         with awari.Levels(folder) as levels:
             try_threads(levels)
             try_numbers(levels)
+        try_verified(Path(name))
         try_built(Path(name), folder)
         try_slices(folder)
         for attempt in (try_drafts, try_builders, try_slices_in_threads, try_closed_builds):

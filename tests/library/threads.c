@@ -1,4 +1,4 @@
-/* Eight threads ask the same levels at once: each by a handle of its own, and all in the same mapped files.
+/* Four threads verify levels, and eight ask them at once: each by a handle of its own, and all in the same mapped files.
  * threads FOLDER */
 #define _POSIX_C_SOURCE 200809L
 #include "awari.h"
@@ -60,7 +60,7 @@ int main(int argc, char **argv) {
     awari_handle first = AWARI_CLOSED;
     static asker askers[THREADS];
     pthread_t threads[THREADS];
-    int wrong = argc != 2 || awari_open(argv[1], 24, &first, NULL) || awari_map(argv[1], 24, &files, NULL);
+    int wrong = argc != 2 || awari_open_by(argv[1], 24, 4, &first, NULL) || awari_map(argv[1], 24, &files, NULL);
     levels = awari_levels(&first);
     for (int i = 0; i < THREADS; i++) wrong |= awari_share(&first, &askers[i].handle) != 0;
     awari_close(&first); /* the others keep the levels */

@@ -115,6 +115,10 @@ extern "C" {
         moves: *mut usize,
     ) -> u8;
     pub(crate) fn awari_counts(handle: *mut Handle, level: u8, out: *mut PlainCounts) -> u8;
+    pub(crate) fn awari_read_level(handle: *mut Handle, bytes: *const u8, len: usize, fault: *mut PlainFault) -> u8;
+    pub(crate) fn awari_look(handle: *mut Handle, part: u32) -> u8;
+    pub(crate) fn awari_join_with(from: *mut Handle, to: *mut Handle) -> u8;
+    pub(crate) fn awari_accept(handle: *mut Handle, fault: *mut PlainFault) -> u8;
     pub(crate) fn awari_begin(handle: *mut Handle) -> u8;
     pub(crate) fn awari_spread(handle: *mut Handle, boards: usize, out: *mut PlainDraft) -> u8;
     pub(crate) fn awari_finish(handle: *mut Handle, file: *mut u8, len: usize) -> u8;

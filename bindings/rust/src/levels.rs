@@ -2,9 +2,9 @@
 
 use crate::boards::Board;
 use crate::calls::{
-    awari_add_level, awari_close, awari_counts, awari_levels, awari_line, awari_longest_line, awari_probe,
-    awari_probe_many, awari_probe_moves, awari_probe_value, awari_share_with, Handle, LineCall, PlainCounts,
-    PlainEntry, PlainFault, PlainMove,
+    awari_accept, awari_add_level, awari_close, awari_counts, awari_join_with, awari_levels, awari_line,
+    awari_longest_line, awari_look, awari_probe, awari_probe_many, awari_probe_moves, awari_probe_value,
+    awari_read_level, awari_share_with, Handle, LineCall, PlainCounts, PlainEntry, PlainFault, PlainMove,
 };
 use crate::files::{files_of, READ};
 use crate::refusals::{refused, refused_with, Refusal};
@@ -12,7 +12,15 @@ use crate::HIGHEST_LEVEL;
 use std::fs::File;
 use std::io::{ErrorKind, Read};
 use std::path::Path;
+use std::sync::atomic::{AtomicU32, Ordering};
 use std::sync::{Mutex, MutexGuard, PoisonError};
+use std::thread;
+
+/// In how many parts the library verifies a level.
+const PARTS: u32 = 1601;
+
+/// The lowest level that is verified by more than one thread.
+const FIRST_SHARED: u8 = 5;
 
 /// What the levels say of a board.
 #[derive(Clone, Copy, Debug, PartialEq, Eq)]
@@ -100,12 +108,79 @@ impl Levels {
 
     /// The same, and levels of more than `most` stones are not read.
     pub fn open_to(folder: impl AsRef<Path>, most: u8) -> Result<Levels, Refusal> {
+        Levels::open_by(folder, most, 1)
+    }
+
+    /// The same, verified by this many threads, of which the caller's is one. If a thread can't be started, the
+    /// others do its work.
+    ///
+    /// ```
+    /// use awari::Levels;
+    ///
+    /// # fn main() -> Result<(), awari::Refusal> {
+    /// # let folder = concat!(env!("CARGO_MANIFEST_DIR"), "/../../examples/levels");
+    /// assert_eq!(Levels::open_by(folder, 24, 4)?.len(), Levels::open(folder)?.len());
+    /// # Ok(())
+    /// # }
+    /// ```
+    pub fn open_by(folder: impl AsRef<Path>, most: u8, threads: usize) -> Result<Levels, Refusal> {
         let levels = Levels::start();
         for file in files_of(folder.as_ref(), most) {
             let (level, file) = file?;
-            levels.add(&bytes_of(file, level)?)?;
+            let bytes = bytes_of(file, level)?;
+            if threads < 2 || level < FIRST_SHARED {
+                levels.add(&bytes)?;
+            } else {
+                levels.read(&bytes)?;
+                drop(bytes);
+                levels.look_by(threads);
+                levels.accept()?;
+            }
         }
         Ok(levels)
+    }
+
+    fn read(&self, bytes: &[u8]) -> Result<(), Refusal> {
+        let mut fault = PlainFault::default();
+        // SAFETY: the library reads these bytes, and writes into the fault.
+        let answer = unsafe { awari_read_level(&mut **self.handle(), bytes.as_ptr(), bytes.len(), &mut fault) };
+        refused_with(answer, fault)
+    }
+
+    /// Has threads look at the level that was read, beside this one. What they leave out, `accept` looks at.
+    fn look_by(&self, threads: usize) {
+        let next = AtomicU32::new(0);
+        let helpers: Vec<Levels> = (1..threads).map_while(|_| self.share().ok()).collect();
+        thread::scope(|scope| {
+            for helper in &helpers {
+                if thread::Builder::new().spawn_scoped(scope, || helper.look(&next)).is_err() {
+                    break;
+                }
+            }
+            self.look(&next);
+        });
+        for helper in &helpers {
+            // SAFETY: the two handles are apart, and one is shared from the other.
+            unsafe { awari_join_with(&mut **helper.handle(), &mut **self.handle()) };
+        }
+    }
+
+    /// Takes parts in turn, and looks at each, until none is left.
+    fn look(&self, next: &AtomicU32) {
+        loop {
+            let part = next.fetch_add(1, Ordering::Relaxed);
+            // SAFETY: the handle is ours.
+            if part >= PARTS || unsafe { awari_look(&mut **self.handle(), part) } != 0 {
+                break;
+            }
+        }
+    }
+
+    fn accept(&self) -> Result<(), Refusal> {
+        let mut fault = PlainFault::default();
+        // SAFETY: the library writes into the fault.
+        let answer = unsafe { awari_accept(&mut **self.handle(), &mut fault) };
+        refused_with(answer, fault)
     }
 
     fn handle(&self) -> MutexGuard<'_, Box<Handle>> {

@@ -55,6 +55,24 @@ fn threads_share_levels() {
 }
 
 #[test]
+fn any_number_of_threads_verifies_the_same() {
+    let folder = folder_below("by_threads", 6);
+    let mut file = bytes_of(6).to_vec();
+    let last = file.len() - 1;
+    file[last] ^= 1;
+    fs::write(folder.join(name_of(6)), &file).unwrap();
+    let board: Board = "1,0,0,0,0,1/1,0,1,0,0,0".parse().unwrap();
+    for threads in [0, 1, 2, 4, 9] {
+        let levels = Levels::open_by(examples(), 24, threads).unwrap();
+        assert_eq!((levels.len(), levels.value(&board)), (7, Ok(4)));
+        assert_eq!(Levels::open_by(examples(), 5, threads).unwrap().len(), 6);
+        assert_eq!(Levels::open_by(&folder, 24, threads).err(), Some(Refusal::File { level: 6, inner: 66 }));
+        assert_eq!(Levels::open_by(&folder, 5, threads).unwrap().len(), 6);
+    }
+    fs::remove_dir_all(folder).unwrap();
+}
+
+#[test]
 fn wrong_files_are_refused() {
     let folder = folder_below("cut", 2);
     fs::write(folder.join(name_of(2)), &bytes_of(2)[..100]).unwrap();

@@ -3,6 +3,7 @@ mod FileMoves
 mod Handling
 mod Mapping
 mod Numbers
+mod Begun
 mod Runs
 mod Sixes
 mod Slices

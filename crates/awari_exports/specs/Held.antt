@@ -3,6 +3,7 @@ use Rattle.std.specs.Prelude.{◌≡◌, ◌≢◌, ◌⊎◌, ◌↔◌, ◌<�
 use Rattle.awari_block.specs.Counts.{spread_in}
 use Rattle.awari_block.specs.Part.{Part, IsClosed}
 use Rattle.awari_file.specs.FileText.{file_len}
+use Rattle.awari_folder.specs.Candidates.{CandidateView, IsCandidate, IsOverFile, IsReadFrom, Joins, LooksAtPart}
 use Rattle.awari_folder.specs.NextFile.{IsNextFile}
 use Rattle.awari_folder.specs.declared.loading.Stored.{Stored}
 use Rattle.awari_heard.specs.Kept.{IsKept}
@@ -17,10 +18,11 @@ use Rattle.awari_segments.specs.Each.{NoneAreFresh}
 use Rattle.awari_exports.specs.declared.held.Held.TheInside.{Inside}
 use Rattle.awari_exports.specs.declared.telling.PlainDraft.{PlainDraft}
 
--- the levels, and the next one if it was begun
+-- the levels, the next one if it was begun, and the next one's file if it was read
 pub record HeldView : Type 0 where
   pub stored : Stored
   pub draft : Option SlicedView
+  pub candidate : Option CandidateView
 
 -- It is the next level of these, which are not all, and it heard what its boards that were spread say.
 pub record IsBegun (levels : List Image) (draft : SlicedView) : Type 0 where
@@ -32,8 +34,13 @@ abbrev pub IfBegun : List Image → Option SlicedView → Type 0
 IfBegun levels None = Unit {0}
 IfBegun levels (Some draft) = IsBegun levels draft
 
+-- the file that was read is in its place over these, and what was looked at of it is so
+abbrev pub IfRead : Stored → Option CandidateView → Type 0
+IfRead stored None = Unit {0}
+IfRead stored (Some c) = IsCandidate stored.shelf c × IsOverFile stored.digest c
+
 abbrev pub IsHeld : Inside → Type 0
-IsHeld h = IfBegun h.stored.shelf h.draft
+IsHeld h = IfBegun h.stored.shelf h.draft × IfRead h.stored h.candidate
 
 -- all its gains are closed
 abbrev pub IsSettled : SlicedView → Type 0
@@ -87,3 +94,26 @@ pub record Finishes (levels : List Image) (old new : Option SlicedView) (room an
   pub unfit : (draft : SlicedView) → old ≡ Some draft → IsSettled draft → room ≢ file_len (length levels) → (answer ≡ 70) × (new ≡ old)
   pub settled : (draft : SlicedView) → old ≡ Some draft → IsSettled draft → room ≡ file_len (length levels)
       → ((answer ≡ 0) ⊎ (answer ≡ 53)) × (new ≡ None)
+
+-- The next level's file was read from these bytes.
+abbrev pub IsReadIn : Option CandidateView → List ℕ → Type 0
+IsReadIn None bytes = ⊥
+IsReadIn (Some c) bytes = IsReadFrom c bytes
+
+-- What comes of a look at a part of the file that was read: 59 if none was, and 93 if there is no such part.
+pub record LooksIn (old : Option CandidateView) (part : ℕ) (new : Option CandidateView) (answer : ℕ) : Type 0 where
+  pub none : old ≡ None → (answer ≡ 59) × (new ≡ None)
+  pub high : (c : CandidateView) → old ≡ Some c → 1600 < part → (answer ≡ 93) × (new ≡ old)
+  pub looked : (c : CandidateView) → old ≡ Some c → part ≤ 1600 → (answer ≡ 0) × IsSomeAnd new (LooksAtPart c part)
+
+-- Two files that were read are one, over the same levels, if they end in one digest.
+abbrev pub AreOne : List Image → Option CandidateView → List Image → Option CandidateView → Type 0
+AreOne levels None others read = Unit {0}
+AreOne levels (Some a) others None = Unit {0}
+AreOne levels (Some a) others (Some b) = a.file.loaded.digest ≡ b.file.loaded.digest → (a.file ≡ b.file) × (levels ≡ others)
+
+-- What comes of joining what others looked at: 59 if not both have read a file that ends in one digest.
+pub record JoinsIn (old other new : Option CandidateView) (answer : ℕ) : Type 0 where
+  pub joined : answer ≡ 0 → (a : CandidateView) × (b : CandidateView) × (c : CandidateView) × (old ≡ Some a) × (other ≡ Some b) × (new ≡ Some c) × Joins a b c
+  pub both : (a b : CandidateView) → old ≡ Some a → other ≡ Some b → a.file.loaded.digest ≡ b.file.loaded.digest → answer ≡ 0
+  pub none : answer ≢ 0 → (answer ≡ 59) × (new ≡ old)

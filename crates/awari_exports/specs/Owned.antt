@@ -7,6 +7,7 @@ use Rattle.std.specs.Global.{Global}
 use Rattle.std.specs.contracts.impls.GlobalAllocator.TheImpl.{ghosts}
 use Rattle.std.specs.Box.Ownership.{box_owns}
 use Rattle.awari_folder.specs.declared.loading.Stored.{Stored}
+use Rattle.awari_folder.specs.Candidates.{CandidateView}
 use Rattle.awari_table.specs.declared.images.Image.{Image}
 use Rattle.awari_segments.specs.Slices.{SlicedView}
 use Rattle.awari_exports.specs.Held.{HeldView}
@@ -49,3 +50,8 @@ digest_in false held = replicate 32 0
 abbrev pub draft_in : Bool → HeldView → Option SlicedView
 draft_in true held = held.draft
 draft_in false held = None
+
+-- the next level's file that was read, and what was looked at of it
+abbrev pub candidate_in : Bool → HeldView → Option CandidateView
+candidate_in true held = held.candidate
+candidate_in false held = None

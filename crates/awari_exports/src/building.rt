@@ -7,7 +7,7 @@ ghost use Rattle.awari_play.specs.Least.{HasLowestPlans};
 ghost use Rattle.awari_file.specs.FileText.{HasFile, body_text, file_len, file_text};
 ghost use Rattle.awari_folder.specs.NextFile.{IsNextFile};
 ghost use Rattle.awari_exports.specs.Held.{Begins, Finishes, IsRightNext, PutsOn, Spreads};
-ghost use Rattle.awari_exports.specs.Owned.{digest_in, draft_in, levels_in};
+ghost use Rattle.awari_exports.specs.Owned.{candidate_in, digest_in, draft_in, levels_in};
 
 use crate::answers::NOT_YET;
 use crate::handles::{Handle, put, take};
@@ -26,6 +26,7 @@ pub extern "C" fn awari_begin(handle: &mut Handle, alloc: Global) -> u8
     ensures begins { Begins (levels_in handle.old.is_open handle.old.held) (draft_in handle.old.is_open handle.old.held) (draft_in handle.new.is_open handle.new.held) result }
     ensures levels { levels_in handle.new.is_open handle.new.held ≡ levels_in handle.old.is_open handle.old.held }
     ensures digest { digest_in handle.new.is_open handle.new.held ≡ digest_in handle.old.is_open handle.old.held }
+    ensures read { candidate_in handle.new.is_open handle.new.held ≡ candidate_in handle.old.is_open handle.old.held }
 {
     let taken = match take(handle, alloc) {
         Some(held) => Ok(held),
@@ -52,6 +53,7 @@ pub extern "C" fn awari_spread(
     ensures spreads { Spreads (draft_in handle.old.is_open handle.old.held) (draft_in handle.new.is_open handle.new.held) out.new result }
     ensures levels { levels_in handle.new.is_open handle.new.held ≡ levels_in handle.old.is_open handle.old.held }
     ensures digest { digest_in handle.new.is_open handle.new.held ≡ digest_in handle.old.is_open handle.old.held }
+    ensures read { candidate_in handle.new.is_open handle.new.held ≡ candidate_in handle.old.is_open handle.old.held }
     ensures untouched { result ≢ 0 → out.new ≡ out.old }
 {
     let Some(mut held) = take(handle, alloc) else {
@@ -75,7 +77,8 @@ pub extern "C" fn awari_finish(handle: &mut Handle, alloc: Global, file: &mut [u
     ensures meaning { result ≡ 0 → TellsTruth (levels_in handle.new.is_open handle.new.held) }
     // Its plans are the lowest, so there is one level that it may be.
     ensures planned { result ≡ 0 → HasLowestPlans (levels_in handle.old.is_open handle.old.held) → HasLowestPlans (levels_in handle.new.is_open handle.new.held) }
-    ensures kept { result ≢ 0 → (levels_in handle.new.is_open handle.new.held ≡ levels_in handle.old.is_open handle.old.held) × (digest_in handle.new.is_open handle.new.held ≡ digest_in handle.old.is_open handle.old.held) }
+    ensures kept { result ≢ 0 → (levels_in handle.new.is_open handle.new.held ≡ levels_in handle.old.is_open handle.old.held) × (digest_in handle.new.is_open handle.new.held ≡ digest_in handle.old.is_open handle.old.held)
+        × (candidate_in handle.new.is_open handle.new.held ≡ candidate_in handle.old.is_open handle.old.held) }
     ensures untouched { result ≢ 0 → file.new ≡ file.old }
 {
     let Some(mut held) = take(handle, alloc) else {
@@ -90,6 +93,7 @@ pub extern "C" fn awari_finish(handle: &mut Handle, alloc: Global, file: &mut [u
 fn finish_in(held: &mut Held, alloc: Global, file: &mut [u8]) -> u8
     ensures finishes { Finishes held.old.stored.shelf held.old.draft held.new.draft (length file.old) result }
     ensures puts_on { PutsOn held.old.stored held.new.stored result file.old file.new }
+    ensures read { result ≢ 0 → held.new.candidate ≡ held.old.candidate }
 {
     if !held.is_settled() {
         return NOT_YET;
@@ -109,7 +113,7 @@ fn keep(held: &mut Held, alloc: Global, level: Level, file: &mut [u8]) -> u8
     requires none { held.old.draft ≡ None }
     requires room { length file.old ≡ file_len (length held.old.stored.shelf) }
     ensures puts_on { PutsOn held.old.stored held.new.stored result file.old file.new }
-    ensures refused { result ≢ 0 → result ≡ 53 }
+    ensures refused { result ≢ 0 → (result ≡ 53) × (held.new.candidate ≡ held.old.candidate) }
     ensures none { held.new.draft ≡ None }
 {
     // Ghost: the plans stay the lowest.

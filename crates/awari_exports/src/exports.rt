@@ -7,7 +7,7 @@ ghost use Rattle.awari_folder.specs.NextFile.{IsNextFile};
 ghost use Rattle.awari_exports.specs.Boards.{IsAnswer};
 ghost use Rattle.awari_exports.specs.Told.{told_entry, IsRefusal, TellsCounts, TellsMove};
 ghost use Rattle.awari_exports.specs.declared.answers.PlainMove.{PlainMove as AMove};
-ghost use Rattle.awari_exports.specs.Owned.{held_in, stored_in, levels_in, digest_in, draft_in};
+ghost use Rattle.awari_exports.specs.Owned.{held_in, stored_in, levels_in, digest_in, draft_in, candidate_in};
 
 use crate::answers::{
     NOT_YET, PlainEntry, PlainFault, PlainMove, told_entry, told_fault, told_moves,
@@ -23,7 +23,7 @@ use awari_theory::shelves_tell_the_truth;
 use std::alloc::Global;
 
 /// Puts the next level on the levels behind the handle, if these bytes are its file, and answers 0.
-/// A level that was begun is given up then. Otherwise the handle stays as it is, closed if it was, and the
+/// A level that was begun or read is given up then. Otherwise the handle stays as it is, closed if it was, and the
 /// number of the refusal is answered, 80, 81, 83, 84 or 86, with more of it in `fault`.
 #[unsafe(no_mangle)]
 pub extern "C" fn awari_add_level(
@@ -197,11 +197,13 @@ pub extern "C" fn awari_counts(
 }
 
 /// Lets `to` have the levels of `from` too, with no copy of them, and answers 0; or 84 if memory runs
-/// out, and `to` is closed then. What `to` held before is given back. A level that was begun stays with `from`.
+/// out, and `to` is closed then. What `to` held before is given back. A level that was begun stays with `from`;
+/// one that was read is shared, with what was looked at of it.
 #[unsafe(no_mangle)]
 pub extern "C" fn awari_share_with(from: &mut Handle, to: &mut Handle, alloc: Global) -> u8
     ensures shared { result ≡ 0 → stored_in to.new.is_open to.new.held ≡ stored_in from.old.is_open from.old.held }
     ensures none { draft_in to.new.is_open to.new.held ≡ None }
+    ensures read { result ≡ 0 → candidate_in to.new.is_open to.new.held ≡ candidate_in from.old.is_open from.old.held }
     ensures kept { held_in from.new.is_open from.new.held ≡ held_in from.old.is_open from.old.held }
     ensures refused { result ≢ 0 → (result ≡ 84) × (to.new.is_open ≡ false) }
 {

@@ -6,6 +6,9 @@
 //! `awari_probe_file` and `awari_probe_moves_files` look boards up in the bytes of files, where they lie; what
 //! they say is right if these bytes were verified. What a caller owes is said in the header.
 //!
+//! A file may also be read and then verified in parts, by threads that the caller starts. Whatever they leave
+//! out, `awari_accept` looks at.
+//!
 //! The check gives no export a `&` to a type that holds a box. So a look-up takes the levels out of its
 //! handle and puts them back, and threads share levels by a handle each.
 #![tactic(auto)]
@@ -21,6 +24,7 @@ mod lines;
 mod longest;
 mod loose;
 mod many;
+mod reading;
 mod storing;
 mod telling;
 mod texts;
@@ -38,5 +42,6 @@ pub use held::Held;
 pub use lines::awari_line;
 pub use longest::awari_longest_line;
 pub use many::awari_probe_many;
+pub use reading::{awari_accept, awari_join_with, awari_look, awari_read_level};
 pub use telling::{PlainCounts, PlainDraft};
 pub use texts::{awari_text_of, awari_version};

@@ -32,6 +32,6 @@ closed_spec 𝓤 𝓛 𝓜 𝓡 wired =
     enter ! 𝓣.C 𝓣.Λ fn [] Post $ alloc_all ! (λ l. pass_all ! refl tt $
     sets ! (agg ! (and_then ! (lit ! tt) (and_then ! (false_lit !) (no_more !)))) refl (tt, (record { fits = lit< tt }, (tt, tt))) $
     use0 𝓛 (raw (fact 𝓤 (false ≡ false))) (fact_i 𝓤 (false ≡ false) (emp 𝓤) refl) $ nothing ! $
-    handle_in ! null_ptr false (record { stored = record { shelf = []; digest = [] }; draft = None }) $ nothing ! $
+    handle_in ! null_ptr false (record { stored = record { shelf = []; digest = [] }; draft = None; candidate = None }) $ nothing ! $
     returns ! (look_at ! 0 refl) $ free_all ! refl $ keep ! (3 ∷ 0 ∷ 1 ∷ 2 ∷ []) $
-    by ! (leaves 𝓛 ended tt c y w (record { at = null_ptr; is_open = false; held = record { stored = record { shelf = []; digest = [] }; draft = None } }) tt tt)))
+    by ! (leaves 𝓛 ended tt c y w (record { at = null_ptr; is_open = false; held = record { stored = record { shelf = []; digest = [] }; draft = None; candidate = None } }) tt tt)))

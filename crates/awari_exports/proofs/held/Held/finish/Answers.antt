@@ -8,7 +8,7 @@ use Rattle.awari_exports.proofs.held.Held.finish.Goals as goal
 pub next_level-requires-clause-made : goal.next_level-requires-clause-made
 next_level-requires-clause-made c =
     let levels = c.self.inside.stored.shelf in let parts = c.in_ok-draft.draft.parts in
-    let begun : IsBegun levels c.in_ok-draft.draft = subst (λ (o : Option SlicedView). IfBegun levels o) (sym c.in_ok-draft.ensures.value) c.self.invariant in
+    let begun : IsBegun levels c.in_ok-draft.draft = subst (λ (o : Option SlicedView). IfBegun levels o) (sym c.in_ok-draft.ensures.value) c.self.invariant.0 in
     record {
       parts = parts;
       whole = subst (λ (n : ℕ). AreWhole n parts) begun.level c.in-Ok.ensures.parts.1;
