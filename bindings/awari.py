@@ -226,22 +226,25 @@ _CALLS: dict[str, tuple[Any, list[Any]]] = {
     "awari_line": (_BYTE, [_AT, _AT, _AT, _SIZE, _AT]),
     "awari_longest_line": (_BYTE, [_AT, _AT, _AT, _SIZE, _AT]),
     "awari_share_with": (_BYTE, [_AT, _AT]),
-    "awari_join_with": (_BYTE, [_AT, _AT]),
     "awari_close": (None, [_AT]),
     "awari_probe_file": (_BYTE, [_AT, _SIZE, _AT, _AT]),
     "awari_probe_moves_files": (_BYTE, [_AT, _SIZE, _AT, _AT]),
 }
 _LONG_CALLS: dict[str, tuple[Any, list[Any]]] = {
     "awari_add_level": (_BYTE, [_AT, _AT, _SIZE, _AT]),
-    "awari_read_level": (_BYTE, [_AT, _AT, _SIZE, _AT]),
-    "awari_look": (_BYTE, [_AT, ctypes.c_uint32]),
-    "awari_accept": (_BYTE, [_AT, _AT]),
     "awari_probe_many": (_BYTE, [_AT, _AT, _SIZE, _AT, _SIZE, _AT]),
     "awari_counts": (_BYTE, [_AT, _BYTE, _AT]),
     "awari_begin": (_BYTE, [_AT]),
     "awari_spread": (_BYTE, [_AT, _SIZE, _AT]),
     "awari_finish": (_BYTE, [_AT, _AT, _SIZE]),
     "awari_check_file": (_BYTE, [_AT, _SIZE, _AT, _AT]),
+}
+# The library of portable/ has a memory for each handle, so it has no such calls, and one thread verifies.
+_CALLS_IN_PARTS: dict[str, tuple[Any, list[Any]]] = {
+    "awari_read_level": (_BYTE, [_AT, _AT, _SIZE, _AT]),
+    "awari_look": (_BYTE, [_AT, ctypes.c_uint32]),
+    "awari_join_with": (_BYTE, [_AT, _AT]),
+    "awari_accept": (_BYTE, [_AT, _AT]),
 }
 
 
@@ -265,6 +268,8 @@ def _library() -> tuple[ctypes.PyDLL, ctypes.CDLL]:
         ) from None
     _declare(short, _CALLS, path)
     _declare(long, _LONG_CALLS, path)
+    if hasattr(long, "awari_accept"):
+        _declare(long, _CALLS_IN_PARTS, path)
     return short, long
 
 
@@ -457,7 +462,7 @@ class _Answers:
 def _add(handle: _Handle, file: _File, threads: int, fault: _Fault) -> None:
     """Puts the next level on, verified by so many threads. What they leave out, this one looks at last."""
     at, fault_at = ctypes.addressof(handle), ctypes.addressof(fault)
-    if threads == 1:
+    if threads == 1 or not hasattr(_awari_long, "awari_accept"):
         _expect(_awari_long.awari_add_level(at, file.bytes, file.len, fault_at), fault)
         return
     _expect(_awari_long.awari_read_level(at, file.bytes, file.len, fault_at), fault)
@@ -479,7 +484,7 @@ def _add(handle: _Handle, file: _File, threads: int, fault: _Fault) -> None:
         for helper, own in helpers:
             if helper.ident is not None:
                 helper.join()
-            _awari.awari_join_with(ctypes.addressof(own), at)
+            _awari_long.awari_join_with(ctypes.addressof(own), at)
             _awari.awari_close(ctypes.addressof(own))
     _expect(_awari_long.awari_accept(at, fault_at), fault)
 

@@ -6,7 +6,9 @@
 #include "awari.h"
 #include <errno.h>
 #include <fcntl.h>
+#ifndef AWARI_PORTABLE
 #include <pthread.h>
+#endif
 #include <stdio.h>
 #include <string.h>
 #include <sys/mman.h>
@@ -67,6 +69,13 @@ void awari_unmap(awari_files *files) {
 /* The most threads, and the first level that is verified by more than one. */
 enum { MOST_THREADS = 64, FIRST_SHARED = 5 };
 
+#ifdef AWARI_PORTABLE
+/* Each handle of the portable library has a memory of its own, so a level is verified by one thread. */
+static uint8_t add_level(awari_handle *handle, const awari_file *file, unsigned threads, awari_fault *fault) {
+    (void)threads;
+    return awari_add_level(handle, file->bytes, file->len, fault);
+}
+#else
 /* The parts of a level, which threads take in turn. */
 typedef struct {
     pthread_mutex_t lock;
@@ -119,23 +128,24 @@ static void look_by(awari_handle *handle, unsigned threads) {
     pthread_mutex_destroy(&parts.lock);
 }
 
+/* Puts the next level on, verified by this many threads. */
+static uint8_t add_level(awari_handle *handle, const awari_file *file, unsigned threads, awari_fault *fault) {
+    if (threads < 2) return awari_add_level(handle, file->bytes, file->len, fault);
+    uint8_t answer = awari_read_level(handle, file->bytes, file->len, fault);
+    if (answer) return answer;
+    look_by(handle, threads);
+    return awari_accept(handle, fault);
+}
+#endif
+
 uint8_t awari_open_by(const char *folder, unsigned most, unsigned threads, awari_handle *handle, awari_fault *fault) {
     awari_fault unasked;
     awari_files files;
     if (!fault) fault = &unasked;
     if (threads > MOST_THREADS) threads = MOST_THREADS;
     uint8_t answer = awari_map(folder, most, &files, fault);
-    for (size_t i = 0; i < files.count && !answer; i++) {
-        const awari_file *file = &files.level[i];
-        if (threads < 2 || i < FIRST_SHARED) {
-            answer = awari_add_level(handle, file->bytes, file->len, fault);
-            continue;
-        }
-        answer = awari_read_level(handle, file->bytes, file->len, fault);
-        if (answer) break;
-        look_by(handle, threads);
-        answer = awari_accept(handle, fault);
-    }
+    for (size_t i = 0; i < files.count && !answer; i++)
+        answer = add_level(handle, &files.level[i], i < FIRST_SHARED ? 1 : threads, fault);
     if (answer) awari_close(handle);
     awari_unmap(&files);
     return answer;

@@ -62,6 +62,12 @@ void awari_unmap(awari_files *files) {
     files->count = 0;
 }
 
+/* One thread verifies: each handle of the portable library has a memory of its own. */
+uint8_t awari_open_by(const char *folder, unsigned most, unsigned threads, awari_handle *handle, awari_fault *fault) {
+    (void)threads;
+    return awari_open(folder, most, handle, fault);
+}
+
 uint8_t awari_open(const char *folder, unsigned most, awari_handle *handle, awari_fault *fault) {
     awari_fault unasked;
     awari_files files;

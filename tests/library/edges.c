@@ -182,6 +182,7 @@ static void try_built(void) {
     awari_close(&other);
 }
 
+#ifndef AWARI_PORTABLE
 /* Levels 0 to 2, read and then verified in parts by two handles. Some parts are left out, and some looked at twice. */
 static void try_parts(void) {
     awari_handle handle = AWARI_CLOSED, other = AWARI_CLOSED;
@@ -233,6 +234,7 @@ static void try_unread(void) {
     awari_close(&other); /* which gives up what was read */
     awari_close(&handle);
 }
+#endif
 
 static void try_mapped(void) {
     static const awari_file empty = {(const uint8_t *)"", 0};
@@ -348,8 +350,10 @@ int main(int argc, char **argv) {
     try_closed();
     try_levels(argv[1]);
     try_built();
+#ifndef AWARI_PORTABLE
     try_parts();
     try_unread();
+#endif
     try_mapped();
     int before = opened(), own = mapped();
     try_folders(argv[2]);
