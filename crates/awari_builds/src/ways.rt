@@ -52,8 +52,11 @@ impl Way {
         }
     }
 
-    /// Whether threads that built together gave up, so that one built some levels.
-    pub(crate) fn gave_up(&self) -> bool {
+    /// Whether threads that built together gave up, so that one built some levels. Owners never do.
+    pub fn gave_up(&self) -> bool
+        ensures together { (team : ATeam) → self.now ≡ Way.Together team → result ≡ team.gave_up }
+        ensures owners { (pace : APace) → self.now ≡ Way.Owners pace → result ≡ false }
+    {
         match self {
             Way::Together { team } => team.gave_up,
             Way::Owners { .. } => false,
