@@ -14,7 +14,7 @@
  *   the call is given.
  * - A handle begins as AWARI_CLOSED. The caller never reads, writes, copies or moves it.
  *
- * Threads: nothing is global, and no call waits, reads a file or starts a thread. Calls may run at once if
+ * Threads: nothing is global, and no call of the library waits, reads a file or starts a thread. Calls may run at once if
  * no two of them have the same handle. Not even two look-ups may, since each takes the levels out of the
  * handle and puts them back. `awari_share` makes a handle for each thread, and copies no level (but in
  * bindings/portable it does); such handles may be used at once, and closed in any order. In mapped files any number

@@ -460,33 +460,43 @@ class _Answers:
 
 
 def _add(handle: _Handle, file: _File, threads: int, fault: _Fault) -> None:
-    """Puts the next level on, verified by so many threads. What they leave out, this one looks at last."""
+    """Puts the next level on, verified by so many threads, of which this is one."""
     at, fault_at = ctypes.addressof(handle), ctypes.addressof(fault)
     if threads == 1 or not hasattr(_awari_long, "awari_accept"):
         _expect(_awari_long.awari_add_level(at, file.bytes, file.len, fault_at), fault)
         return
     _expect(_awari_long.awari_read_level(at, file.bytes, file.len, fault_at), fault)
-    parts = iter(range(_PARTS))
-    turn = threading.Lock()
-    helpers: list[tuple[threading.Thread, _Handle]] = []
+    parts, turn = iter(range(_PARTS)), threading.Lock()
+    helpers = [_helper(at, parts, turn) for _ in range(threads - 1)]
     try:
-        for _ in range(threads - 1):
-            own = _Handle()
-            _expect(_awari.awari_share_with(at, ctypes.addressof(own)))
-            helper = threading.Thread(target=_look, args=(own, parts, turn))
-            helpers.append((helper, own))
-            helper.start()
-        _look(handle, parts, turn)
-    except (Refused, RuntimeError):
-        # A thread that can't be started is missed by nobody.
         _look(handle, parts, turn)
     finally:
-        for helper, own in helpers:
-            if helper.ident is not None:
-                helper.join()
-            _awari_long.awari_join_with(ctypes.addressof(own), at)
-            _awari.awari_close(ctypes.addressof(own))
+        for helper in helpers:
+            _join(helper, at)
+    # It looks at what the threads left out.
     _expect(_awari_long.awari_accept(at, fault_at), fault)
+
+
+def _helper(at: int, parts: Iterator[int], turn: threading.Lock) -> tuple[_Handle, threading.Thread | None]:
+    """A handle over the level that was read, and a thread that looks at parts by it, if one can be started."""
+    own = _Handle()
+    if _awari.awari_share_with(at, ctypes.addressof(own)):
+        return own, None
+    thread = threading.Thread(target=_look, args=(own, parts, turn))
+    try:
+        thread.start()
+    except RuntimeError:
+        return own, None
+    return own, thread
+
+
+def _join(helper: tuple[_Handle, threading.Thread | None], at: int) -> None:
+    """Waits for a helper, and takes over what it looked at."""
+    own, thread = helper
+    if thread:
+        thread.join()
+        _awari_long.awari_join_with(ctypes.addressof(own), at)
+    _awari.awari_close(ctypes.addressof(own))
 
 
 def _look(handle: _Handle, parts: Iterator[int], turn: threading.Lock) -> None:

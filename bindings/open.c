@@ -103,27 +103,29 @@ static void *help(void *given) {
     return NULL;
 }
 
-/* Has threads look at the level that was read, beside this one. What they leave out, awari_accept looks at. */
+/* Starts as many helpers, or fewer if the system refuses one: how many. */
+static unsigned start_helpers(awari_handle *handle, awari_parts *parts, awari_helper *helpers, unsigned count) {
+    for (unsigned i = 0; i < count; i++) {
+        helpers[i].parts = parts;
+        if (awari_share(handle, &helpers[i].handle) || pthread_create(&helpers[i].thread, NULL, help, &helpers[i])) {
+            awari_close(&helpers[i].handle);
+            return i;
+        }
+    }
+    return count;
+}
+
+/* Has threads look at the level that was read, of which this is one. What they leave out, awari_accept looks at. */
 static void look_by(awari_handle *handle, unsigned threads) {
     awari_parts parts = {PTHREAD_MUTEX_INITIALIZER, 0};
-    awari_helper helpers[MOST_THREADS - 1];
-    unsigned started = 0;
+    awari_helper helpers[MOST_THREADS];
     memset(helpers, 0, sizeof helpers);
-    while (started + 1 < threads) {
-        awari_helper *next = &helpers[started];
-        next->parts = &parts;
-        if (awari_share(handle, &next->handle) || pthread_create(&next->thread, NULL, help, next)) {
-            awari_close(&next->handle);
-            break;
-        }
-        started++;
-    }
+    unsigned started = start_helpers(handle, &parts, helpers, threads - 1);
     look_at_parts(handle, &parts);
-    while (started > 0) {
-        awari_helper *last = &helpers[--started];
-        pthread_join(last->thread, NULL);
-        awari_join(&last->handle, handle);
-        awari_close(&last->handle);
+    for (unsigned i = 0; i < started; i++) {
+        pthread_join(helpers[i].thread, NULL);
+        awari_join(&helpers[i].handle, handle);
+        awari_close(&helpers[i].handle);
     }
     pthread_mutex_destroy(&parts.lock);
 }
