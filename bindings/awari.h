@@ -294,7 +294,7 @@ typedef struct {
 uint8_t awari_open(const char *folder, unsigned most, awari_handle *handle, awari_fault *fault);
 
 /* The same by this many threads, of which the caller's is one: 0 counts as 1, and more than 64 as 64. If a thread can't
- * be started, the others do its work. */
+ * be started, the others do its work. In bindings/portable it is always one. */
 uint8_t awari_open_by(const char *folder, unsigned most, unsigned threads, awari_handle *handle, awari_fault *fault);
 
 /* Maps the files of these levels: 0, 82 (the folder, or a file, does not open or is none; that of level 0 is not
