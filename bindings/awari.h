@@ -40,6 +40,21 @@ extern "C" {
 /* The version of the library that is linked. */
 uint32_t awari_version(void);
 
+/* A text, with a zero byte behind it. It is never freed. */
+typedef struct {
+    const char *text;
+    size_t size; /* with the zero byte */
+} awari_sentence;
+
+/* Lends the digest of the sources that the library was made of, in hexadecimal, as release/MANIFEST has it. */
+void awari_source_text(awari_sentence *id);
+
+static inline const char *awari_source_id(void) {
+    awari_sentence id;
+    awari_source_text(&id);
+    return id.text;
+}
+
 /* ---- Answers; docs/FORMATS.md says when each comes */
 
 enum {
@@ -75,12 +90,6 @@ enum {
     AWARI_OLD = 86,
     AWARI_NO_RANK = 93
 };
-
-/* A sentence, with a zero byte behind it. It is never freed. */
-typedef struct {
-    const char *text;
-    size_t size; /* with the zero byte */
-} awari_sentence;
 
 /* Lends the sentence for a person that belongs to a number. Every number has one. */
 void awari_text_of(uint8_t answer, awari_sentence *sentence);
@@ -257,6 +266,14 @@ static inline size_t awari_file_len(uint8_t level) { return 84 + 6 * (size_t)awa
  * 70 if `len` is another length; or 53, and the level is lost. It takes three bytes a board, and a copy of the
  * file for the time of the call. */
 uint8_t awari_finish(awari_handle *handle, uint8_t *file, size_t len);
+
+/* All of this in one call, for which the levels don't answer meanwhile: 0, 51, 53 or 70. */
+static inline uint8_t awari_build_next(awari_handle *handle, uint8_t *file, size_t len) {
+    awari_draft draft = {0, 0, false};
+    uint8_t answer = awari_begin(handle);
+    while (!answer && !draft.settled) answer = awari_spread(handle, 100000, &draft);
+    return answer ? answer : awari_finish(handle, file, len);
+}
 
 /* ---- The bytes of files, where they lie, as mapped: what they say is the truth if they were verified */
 

@@ -39,7 +39,8 @@ else:
 
 __all__ = [
     "HIGHEST_LEVEL", "NAMES", "NO_PLAN", "PITS", "Board", "Counts", "Draft", "Entry", "Levels", "Line", "Mapped",
-    "Move", "Refused", "Replies", "Tally", "boards", "legal", "play", "rank_many", "size", "version",
+    "Move", "Refused", "Replies", "Tally", "boards", "legal", "play", "rank_many", "size", "source_id",
+    "version",
 ]
 
 HIGHEST_LEVEL = 24
@@ -214,6 +215,7 @@ class _Scratch(threading.local):
 _AT, _SIZE, _BYTE = ctypes.c_void_p, ctypes.c_size_t, ctypes.c_uint8
 _CALLS: dict[str, tuple[Any, list[Any]]] = {
     "awari_version": (ctypes.c_uint32, []),
+    "awari_source_text": (None, [_AT]),
     "awari_text_of": (None, [_BYTE, _AT]),
     "awari_parse": (_BYTE, [ctypes.c_char_p, _SIZE, _AT]),
     "awari_legal": (_BYTE, [_AT]),
@@ -303,6 +305,18 @@ def version() -> str:
 
 # The module and its library come together.
 __version__ = version()
+
+
+def source_id() -> str:
+    """The digest of the sources that the library was made of, in hexadecimal.
+
+    >>> len(source_id())
+    64
+    """
+    found = _Sentence()
+    _awari.awari_source_text(ctypes.addressof(found))
+    text: bytes = found.text
+    return text.decode()
 
 
 def _read(board: Board, pits: ctypes.Array[ctypes.c_char], at: int) -> None:

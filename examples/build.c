@@ -10,13 +10,10 @@
 
 /* Builds the next level, and writes its file. */
 static uint8_t build(awari_handle *levels, const char *folder) {
-    uint8_t level = awari_levels(levels), answer = awari_begin(levels);
-    awari_draft draft = {0, 0, false};
-    while (!answer && !draft.settled) answer = awari_spread(levels, 100000, &draft);
-    if (answer) return answer;
+    uint8_t level = awari_levels(levels);
     size_t len = awari_file_len(level);
     uint8_t *bytes = malloc(len);
-    answer = bytes ? awari_finish(levels, bytes, len) : (uint8_t)AWARI_MEMORY_OF_LEVEL;
+    uint8_t answer = bytes ? awari_build_next(levels, bytes, len) : (uint8_t)AWARI_MEMORY_OF_LEVEL;
     if (!answer) {
         char path[4096];
         snprintf(path, sizeof path, "%s/level_%02d.awdb", folder, level);

@@ -2,11 +2,15 @@
 # Functions of ./awari, ./install, ./prove, bindings/make, release/make and tests/common.sh, which set `top`
 # to the repository's folder.
 
-# the digest of the sources: of the list of crates, and of the code, definitions and proofs of each crate
+# the file that tells a program and a library of which sources they are
+sources_file=crates/awari_sources/src/lib.rt
+
+# the digest of the sources: of the list of crates, and of the code, definitions and proofs of each crate, but for
+# the file that tells this digest
 sources_digest() {
   (
     cd "$top" || exit
-    find crates.txt crates/*/src crates/*/specs crates/*/proofs -type f -print0 2>/dev/null |
+    find crates.txt crates/*/src crates/*/specs crates/*/proofs -type f ! -path "$sources_file" -print0 2>/dev/null |
       LC_ALL=C sort -z | xargs -0 sha256sum | sha256sum | cut -c 1-64
   )
 }

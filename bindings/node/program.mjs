@@ -108,7 +108,8 @@ function answer(run, asked) {
 export async function main(words) {
   const levels = await Levels.start(), run = new Run(levels);
   try {
-    const status = answer(run, understood(words, levels.version));
+    const version = `awari ${levels.version}, levels 0 to 24\nsources ${levels.sourceId}`;
+    const status = answer(run, understood(words, version));
     run.flush();
     run.tellRemarks();
     return status;

@@ -157,13 +157,13 @@ const asks = (words, ...names) => words.slice(0, (words.indexOf("--") + words.le
 /**
  * The command of these words, with what it is given and its options. It throws NotUnderstood.
  * @param {string[]} words
- * @param {string} version
+ * @param {string} version what is told of the version
  */
 export function understood(words, version) {
   const lost = words.findIndex(it => it.includes("\ufffd"));
   if (lost >= 0) throw new NotUnderstood(`error: word ${lost + 1} is not UTF-8`);
   const [command, ...rest] = words;
-  if (["-V", "--version"].includes(command)) throw new NotUnderstood(`awari ${version}, levels 0 to 24`);
+  if (["-V", "--version"].includes(command)) throw new NotUnderstood(version);
   if (command === undefined || ["-h", "--help"].includes(command)) throw new NotUnderstood(helpOfAll());
   const asked = command === "help" ? rest[0] : command;
   if (asked === undefined) throw new NotUnderstood(helpOfAll());

@@ -170,13 +170,23 @@ uint32_t awari_version(void) {
     return version;
 }
 
+/* Tells a text that an instance has lent. The first one has the same text at the same place, and stays. */
+static void tell_text(struct levels *it, awari_sentence *text) {
+    text->text = (const char *)first_memory + read_number(place(it, AT_OUT, 8), 8);
+    text->size = (size_t)read_number(place(it, AT_OUT + 8, 8), 8);
+    give_back(it);
+}
+
+void awari_source_text(awari_sentence *id) {
+    struct levels *it = borrow();
+    w2c_awari_source_text(&it->module, it->room + AT_OUT);
+    tell_text(it, id);
+}
+
 void awari_text_of(uint8_t answer, awari_sentence *sentence) {
     struct levels *it = borrow();
     w2c_awari_text_of(&it->module, answer, it->room + AT_OUT);
-    /* the first instance has the same sentence at the same place, and stays */
-    sentence->text = (const char *)first_memory + read_number(place(it, AT_OUT, 8), 8);
-    sentence->size = (size_t)read_number(place(it, AT_OUT + 8, 8), 8);
-    give_back(it);
+    tell_text(it, sentence);
 }
 
 /* Copies a text, and of a field of it three bytes at most: with more it is no number either. No more fields are

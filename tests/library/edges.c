@@ -37,6 +37,7 @@ static void try_sentences(void) {
     EXPECT(strcmp(awari_text(AWARI_NO_RANK), other) && strcmp(awari_text(AWARI_OK), other));
     EXPECT(!strcmp(awari_text(AWARI_TOO_MANY), "A board has at most 48 stones"));
     EXPECT(awari_version() == AWARI_VERSION);
+    EXPECT(strlen(awari_source_id()) == 64 && strspn(awari_source_id(), "0123456789abcdef") == 64);
 }
 
 static void try_boards(void) {

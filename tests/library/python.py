@@ -412,6 +412,7 @@ def try_numbers(levels):
     expect("too many stones", refused(lambda: awari.legal([5] * 12)), "3 TooMany")
     expect("a board above all levels", refused(lambda: levels.entry([25] + [0] * 11)), "59 NotYet")
     expect("the wheel's version", wheel_of_awari.version(), awari.version())
+    expect("the sources", awari.source_id(), re.search("^sources (.*)$", (TOP / "release" / "MANIFEST").read_text(), re.MULTILINE)[1])
     expect("the greatest limit", awari._GREATEST_LIMIT, max(int(row["limit"]) for row in rows_of_levels()))
     for name in ("package.json", "rust/Cargo.toml"):
         found = re.search(r'^ *"?version"?\W+([0-9.]+)"', (TOP / "bindings" / name).read_text(), re.MULTILINE)

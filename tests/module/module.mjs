@@ -330,6 +330,8 @@ function compareOtherCalls(levels, boards) {
   expectRefused(3, () => levels.legal(Array(12).fill(5)));
   const about = JSON.parse(readFileSync(new URL("../../bindings/package.json", import.meta.url)));
   expect("the version", levels.version === about.version);
+  const manifest = readFileSync(new URL("../../release/MANIFEST", import.meta.url), "utf8");
+  expect("the sources", manifest.includes(`\nsources ${levels.sourceId}\n`));
   expect("the sentence of 3", levels.sentence(3) === "A board has at most 48 stones" && levels.sentence(255).length > 9);
 }
 

@@ -1,6 +1,6 @@
 //! The calls of `awari.h`.
 
-use std::ffi::{c_char, c_void};
+use std::ffi::{c_char, c_void, CStr};
 use std::ptr;
 
 /// Levels in memory. It begins closed, stays where it is, and is closed before it goes.
@@ -79,7 +79,19 @@ pub(crate) struct Sentence {
     pub(crate) size: usize,
 }
 
+/// A text that a call lends.
+///
+/// # Safety
+///
+/// The call writes a text that is never freed, with a zero byte behind it.
+pub(crate) unsafe fn lent(call: impl FnOnce(*mut Sentence)) -> &'static str {
+    let mut text = Sentence { text: ptr::null(), size: 0 };
+    call(&mut text);
+    unsafe { CStr::from_ptr(text.text) }.to_str().unwrap_or("")
+}
+
 extern "C" {
+    pub(crate) fn awari_source_text(id: *mut Sentence);
     pub(crate) fn awari_text_of(answer: u8, sentence: *mut Sentence);
     pub(crate) fn awari_parse(text: *const u8, len: usize, pits: *mut [u8; 12]) -> u8;
     pub(crate) fn awari_legal(pits: *const [u8; 12]) -> u8;

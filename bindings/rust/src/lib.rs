@@ -43,3 +43,13 @@ pub use refusals::Refusal;
 pub const HIGHEST_LEVEL: u8 = 24;
 /// How many levels there are.
 const LEVELS: usize = HIGHEST_LEVEL as usize + 1;
+
+/// The digest of the sources that the library was made of, in hexadecimal.
+///
+/// ```
+/// assert_eq!(awari::source_id().len(), 64);
+/// ```
+pub fn source_id() -> &'static str {
+    // SAFETY: the library writes a text that is never freed, with a zero byte behind it.
+    unsafe { calls::lent(|id| calls::awari_source_text(id)) }
+}

@@ -1,9 +1,8 @@
 //! Why a call refuses.
 
-use crate::calls::{awari_text_of, PlainFault, Sentence};
+use crate::calls::{awari_text_of, lent, PlainFault};
 use std::error::Error;
-use std::ffi::CStr;
-use std::{fmt, ptr};
+use std::fmt;
 
 /// Why a call refuses. It is printed as a sentence for a person.
 #[derive(Clone, Copy, Debug, PartialEq, Eq, Hash)]
@@ -131,13 +130,8 @@ pub(crate) fn refused_with(answer: u8, fault: PlainFault) -> Result<(), Refusal>
 
 /// The sentence of a number.
 fn sentence(number: u8) -> &'static str {
-    let mut lent = Sentence { text: ptr::null(), size: 0 };
     // SAFETY: the library writes a text that is never freed, with a zero byte behind it.
-    let text = unsafe {
-        awari_text_of(number, &mut lent);
-        CStr::from_ptr(lent.text)
-    };
-    text.to_str().unwrap_or("")
+    unsafe { lent(|sentence| awari_text_of(number, sentence)) }
 }
 
 impl fmt::Display for Refusal {

@@ -3,6 +3,7 @@
 #![tactic(auto)]
 
 use awari_cli::{Answers, Disk, Streams, run};
+use awari_sources::SOURCES;
 use awari_words::joined;
 use std::env::Env;
 use std::io::IsTerminal;
@@ -24,6 +25,10 @@ fn main(rt: HostRuntime) -> ExitCode {
             let mut disk = Disk::new(&rt, rt.alloc()).told_on_terminal(on_terminal);
             let status = run(&rt, rt.alloc(), &mut disk, words.as_slice(), &mut streams);
             streams.output.tell(&mut streams.errors);
+            if asks_version(words.as_slice()) {
+                // There is nowhere to say that this could not be written.
+                let _ = eprintln!(rt; "sources {SOURCES}");
+            }
             ExitCode::from(status)
         }
         Err(error) => {
@@ -42,6 +47,11 @@ fn main(rt: HostRuntime) -> ExitCode {
 fn words(rt: HostRuntime) -> io::Result<Vec<String>> {
     let words: Vec<String> = env::args(&rt)?.collect(rt.alloc())?;
     Ok(joined(rt.alloc(), words.as_slice())?)
+}
+
+/// Whether the words ask for the version, which is told by its number and then by its sources.
+fn asks_version(words: &[String]) -> bool {
+    words.len() > 1 && matches!(words[1].as_str(), "--version" | "-V")
 }
 
 /// Which word is the first that is not UTF-8. The first one behind the program's name has number 1.

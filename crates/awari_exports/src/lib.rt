@@ -44,4 +44,4 @@ pub use longest::awari_longest_line;
 pub use many::awari_probe_many;
 pub use reading::{awari_accept, awari_join_with, awari_look, awari_read_level};
 pub use telling::{PlainCounts, PlainDraft};
-pub use texts::{awari_text_of, awari_version};
+pub use texts::{awari_source_text, awari_text_of, awari_version};
