@@ -6,6 +6,7 @@ ghost use Rattle.awari_host.specs.Hosts.{AllStay};
 ghost use Rattle.awari_folder.specs.Contents.{Same};
 
 use awari_answers::{Remarks, Streams, print};
+use awari_board::Board;
 use awari_boards::{run_ask, run_line, run_moves, run_serve_unverified};
 use awari_builds::run_serve;
 use awari_counts::{run_counts, run_pairs};
@@ -13,12 +14,16 @@ use awari_folder::Folder;
 use awari_host::{Host, Purpose};
 use awari_levels::{run_all_boards, run_boards, run_text, run_verify};
 use awari_queries::CountsQuery;
+use awari_rank::MOST_STONES;
 use awari_words::Question;
 use std::alloc::Global;
 use std::io::{Read, Write};
 use std::sync::Wait;
 use std::thread::Threads;
 use std::time::Clock;
+
+/// To verify the levels up to this one takes a second by four threads.
+const LONG_LEVEL: u8 = 16;
 
 /// A question, and the name of the folder that it is about.
 #[derive(Clone, Copy)]
@@ -42,13 +47,7 @@ pub(crate) fn run_reading<
         (W.contents streams.old.output) (W.contents streams.new.output) }
 {
     let mut folder = host.open(reading.folder, Purpose::Read, &mut streams.errors);
-    if is_unverified(reading.question) {
-        // There is nowhere to say that this could not be written.
-        print(
-            &mut streams.errors,
-            &format_args!("{}: nothing is verified", reading.folder),
-        );
-    }
+    tell_verifying(reading, &mut streams.errors);
     let status = run_question(rt, alloc, &mut folder, reading.question, streams);
     host.tell(reading.folder, &folder, &mut streams.errors);
     host.close(reading.folder, folder);
@@ -107,6 +106,35 @@ fn run_numbers<T: Threads + Sync, F: Folder, W: Remarks>(
         Some(_) => run_pairs(rt, alloc, folder, &query, writer),
         None => run_counts(rt, alloc, folder, query, writer),
     }
+}
+
+/// Says that nothing is verified, or that this takes longer than a second. There is nowhere to say that it
+/// could not be written.
+fn tell_verifying<E: Write>(reading: Reading<'_>, errors: &mut E) {
+    let folder = reading.folder;
+    if is_unverified(reading.question) {
+        print(errors, &format_args!("{folder}: nothing is verified"));
+    } else if let Some(level) = long_level(reading.question) {
+        print(
+            errors,
+            &format_args!("{folder}: verifying levels 0 to {level}; --unverified answers at once"),
+        );
+    }
+}
+
+/// The level of the board that is asked for, if it takes longer than a second to verify the levels up to it.
+fn long_level(question: Question<'_>) -> Option<u8> {
+    let board = match question {
+        Question::Ask(query) => query.board,
+        Question::Moves(query) => query.board,
+        Question::Line(query) => query.board,
+        _ => return None,
+    };
+    let level = Board::parse(board.as_bytes()).ok()?.stones();
+    if level < LONG_LEVEL || level > MOST_STONES {
+        return None;
+    }
+    Some(level)
 }
 
 /// Whether the question is to be answered by what the files say, with nothing verified.
