@@ -15,6 +15,9 @@ sources_digest() {
   )
 }
 
+# has a copy of the repository tell the digest of the sources that it has now
+tell_sources() { sed -i "s/[0-9a-f]\{64\}/$(top=$1 sources_digest)/" "$1/$sources_file"; }
+
 # the folder for what is kept between two runs: out/, or one of the user's if nothing can be written there
 kept_folder() {
   local folder
@@ -164,10 +167,14 @@ build_crate() {
 }
 
 # proves and builds the program in this copy of the repository
-build_in() { build_crate "$1" awari run -- check; }
+build_in() {
+  tell_sources "$1"
+  build_crate "$1" awari run -- check
+}
 
 # proves the library in this copy of the repository, and links it into a folder
 build_library_in() {
+  tell_sources "$1"
   build_crate "$1" awari_exports lib
   link_library "$1/crates/awari_exports/out/libawari_exports.a" "$2"
 }

@@ -1,5 +1,5 @@
-//! Of which sources a program or a library is. `release/make` writes this file, and the digest is of all other
-//! sources, so it tells them from any others.
+//! Of which sources a program or a library is. `release/make` and `./awari` write this file, and the digest is of
+//! all other sources, so it tells them from any others.
 #![tactic(auto)]
 
 /// The digest of the sources, in hexadecimal, as `release/MANIFEST` has it.
