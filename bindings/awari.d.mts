@@ -36,6 +36,8 @@ export class Levels {
   constructor(instance: WebAssembly.Instance);
   /** The version of the module. */
   get version(): string;
+  /** The digest of the sources that the module was made of, in hexadecimal. */
+  get sourceId(): string;
   /** How many levels there are. */
   get length(): number;
   /** How many bytes of memory the module has taken. */
