@@ -11,7 +11,7 @@ use awari_folder::Folder;
 use awari_heard::Silent;
 use awari_levels::{run_all_boards, run_boards, run_text, run_verify};
 use awari_queries::{
-    AskQuery, BoardSpans, BoardsQuery, LineQuery, MovesQuery, ServeQuery, VerifyQuery,
+    Added, AskQuery, BoardSpans, BoardsQuery, LineQuery, MovesQuery, ServeQuery, VerifyQuery,
 };
 use std::alloc::Global;
 use std::io::{self, Read, Write};
@@ -207,8 +207,7 @@ pub(crate) fn listed(
         seed: 0,
         sort: None,
         most: 0,
-        with_moves: false,
-        with_keep: false,
+        added: Added::default(),
         count: false,
         json: false,
         csv: false,

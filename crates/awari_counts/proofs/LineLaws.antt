@@ -10,7 +10,8 @@ use Rattle.awari_members.specs.declared.forms.Form.{Form}
 use Rattle.awari_queries.specs.declared.columns.Column.{Column}
 use Rattle.awari_facts.proofs.PartLaws.{lines-more, lines-next}
 use Rattle.awari_counts.specs.Ranges.{number_at}
-use Rattle.awari_counts.specs.Rows.{column_member, place_line, row_lines, share_text}
+use Rattle.awari_facts.specs.Numbers.{column_member}
+use Rattle.awari_counts.specs.Rows.{place_line, row_lines, share_text}
 
 -- a part of no lines
 pub lines-skip : (f : ℕ → List ℕ) (n : ℕ) (before now : Option (List ℕ)) → Appends before now (flat_map f (range_with_len 0 n)) → f n ≡ [] → Appends before now (flat_map f (range_with_len 0 (n + 1)))

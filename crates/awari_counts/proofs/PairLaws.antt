@@ -20,7 +20,8 @@ use Rattle.awari_table.specs.declared.images.Image.{Image}
 use Rattle.awari_counts.specs.Asking.{IsHeldFault, IsReadFault}
 use Rattle.awari_counts.specs.Pairs.{AppendsPairs, PrintsPairs, PrintsPairsBy, PrintsPairsSaid, boards_with, header_of, pair_lines, pair_row}
 use Rattle.awari_counts.specs.Ranges.{number_at, width_of}
-use Rattle.awari_counts.specs.Rows.{column_member, row_lines}
+use Rattle.awari_facts.specs.Numbers.{column_member}
+use Rattle.awari_counts.specs.Rows.{row_lines}
 use Rattle.awari_counts.proofs.CellLaws.{row-within}
 use Rattle.awari_counts.specs.Tables.{AreTabled, IsCountFault, IsHeldCountFault, cells_of, columns_of, rows_of}
 use Rattle.awari_counts.specs.declared.pairs.Wish.{Wish}

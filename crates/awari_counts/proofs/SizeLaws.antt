@@ -1,22 +1,24 @@
 -- The numbers of boards of all values, of all distances, of all pairs of numbers, and of those won, even and lost come to the level's size.
-use Rattle.std.proofs.Common.{◌≡◌, ◌≢◌, ℕ, zero, suc, ◌+◌, ◌-◌, ◌==◌, ◌<◌, ◌≤◌, Bool, true, false, cond, List, [], ◌∷◌, length, int_lt, take, get_or, count_by, fold, max, sum, All, neg_ℤ, ◌≤ℤ◌, Option, Some, None, slice_get, ℤ, pos, ◌-ℤ◌, negsuc, refl, sym, ◌∙◌, ap, subst, arith}
+use Rattle.std.proofs.Common.{◌≡◌, ◌≢◌, ℕ, zero, suc, ◌+◌, ◌-◌, ◌==◌, ◌<◌, ◌≤◌, Bool, true, false, cond, ◌&&◌, ◌||◌, nat_lt, List, [], ◌∷◌, drop, length, map, int_lt, take, get_or, count_by, fold, max, sum, All, neg_ℤ, ◌≤ℤ◌, ◌<ℤ◌, Option, Some, None, slice_get, ℤ, pos, ◌-ℤ◌, negsuc, refl, sym, ◌∙◌, ap, subst, arith}
 use Rattle.std.proofs.lemmas.Int.{ints}
-use Rattle.std.proofs.lemmas.List.{length-map, length-take-le}
+use Rattle.std.proofs.lemmas.List.{length-append, length-drop, length-map, length-take, length-take-le}
 use Rattle.std.proofs.lemmas.List.Elements.{All-from_get_or}
 use Rattle.std.proofs.lemmas.List.Sums.{count_by-le-length, sum_by-cons}
+use Rattle.std.proofs.lemmas.Bool.{false≢true}
 use Rattle.std.proofs.lemmas.Bool.Decides.{nat_tests}
 use Rattle.std.proofs.lemmas.Option.{get_or_from_slice_get, slice_get-get_or, slice_get_within}
 use Rattle.std.specs.Prelude.{IfSome}
 use Rattle.std.specs.Ordering.{int_eq}
-use Rattle.awari_board.proofs.Keeping.{sum-from_IsMove}
+use Rattle.awari_board.proofs.Keeping.{IsBoard-next, sum-from_IsMove, sum-turned}
 use Rattle.awari_board.proofs.Moving.{IsMove-from_tests}
-use Rattle.awari_board.specs.Rules.{IsBoard, captured, next_board}
+use Rattle.awari_board.specs.Rules.{IsBoard, captured, next_board, turned}
 use Rattle.awari_board.specs.Tests.{is_legal}
-use Rattle.awari_facts.specs.Facts.{captured_by, captures_by, gained_by, gains, gains_in, keeping_moves, largest_capture, legal_moves, most_captured, own_pits}
+use Rattle.awari_facts.specs.Facts.{captured_by, captures_by, gained_by, gains, gains_in, greedier, greediest, is_zugzwang, keeping_moves, largest_capture, legal_moves, lost_by, lost_by_moving, most_captured, no_capture, other_value, own_pits}
 use Rattle.awari_facts.proofs.RankLaws.{rank-inside}
 use Rattle.awari_facts.specs.Numbers.{number_in, or_less}
+use Rattle.awari_facts.specs.declared.looks.Gained.{Gained}
 use Rattle.awari_queries.specs.declared.columns.Column.{Column}
-use Rattle.awari_queries.specs.declared.columns.Column.TheVariants.{Rank, Value, Distance, Plan, Captures, Greedy, Moves, Keep}
+use Rattle.awari_queries.specs.declared.columns.Column.TheVariants.{Rank, Value, Distance, Plan, Captures, Greedy, Moves, Keep, Trap, Other, Waits}
 use Rattle.awari_queries.specs.declared.columns.Pair.{Pair}
 use Rattle.awari_rank.proofs.Counting.{total_same}
 use Rattle.awari_rank.proofs.Ranking.{listed_board}
@@ -93,6 +95,71 @@ own-plan : (plan : Option ℕ) → IfSome plan (λ x. x < 6) → IfSome plan (λ
 own-plan None own = tt
 own-plan (Some x) own = omega (arith, own)
 
+-- ---- what the largest capture throws away, and what zugzwang loses
+
+-- what a move of at most 24 stones gains
+abbrev IsNear : Gained → Type 0
+IsNear g = (neg_ℤ (pos 24) ≤ℤ g.value) × (g.value ≤ℤ pos 48)
+
+greedier-near : (most : Gained) (other : Option Gained) → IsNear most → IfSome other IsNear → IsNear (greedier most other)
+greedier-near most None near others = near
+greedier-near most (Some g) near others = go (nat_lt most.captured g.captured || (g.captured == most.captured && int_lt most.value g.value))
+  where
+    go : (b : Bool) → IsNear (cond b g most)
+    go true = others
+    go false = near
+
+greediest-near : (f : ℕ → Option Gained) (xs : List ℕ) (most : Gained) → IsNear most → ((x : ℕ) → IfSome (f x) IsNear) → IsNear (fold greedier most (map f xs))
+greediest-near f [] most near each = near
+greediest-near f (x ∷ xs) most near each = greediest-near f xs (greedier most (f x)) (greedier-near most (f x) near (each x)) each
+
+gain-near : (c n : ℕ) (v : ℤ) → c ≤ 24 → n ≤ 24 → neg_ℤ (pos n) ≤ℤ v → v ≤ℤ pos n → (neg_ℤ (pos 24) ≤ℤ (pos c -ℤ v)) × ((pos c -ℤ v) ≤ℤ pos 48)
+gain-near c n v few some low high = (omega (arith, ints), omega (arith, ints))
+
+trap-place : (v : ℤ) → neg_ℤ (pos 72) ≤ℤ v → v ≤ℤ pos 72 → (j : ℕ) × (j < 535) × (v ≡ number_at Trap j)
+trap-place (pos m) low high = (m + 280, omega (arith, ints), omega (arith, ints))
+trap-place (negsuc m) low high = (279 - m, omega (arith, ints), omega (arith, ints))
+
+lost-place : (v : ℤ) (g : Gained) (n : ℕ) → n ≤ 24 → neg_ℤ (pos n) ≤ℤ v → v ≤ℤ pos n → IsNear g → (j : ℕ) × (j < 535) × (lost_by v g ≡ number_at Trap j)
+lost-place v g n few low high near = go (g.captured == 0)
+  where
+    lower : neg_ℤ (pos 72) ≤ℤ (v -ℤ g.value)
+    lower = omega (arith, ints, near.1)
+
+    upper : (v -ℤ g.value) ≤ℤ pos 72
+    upper = omega (arith, ints, near.0)
+
+    go : (b : Bool) → (j : ℕ) × (j < 535) × (cond b (pos 0) (v -ℤ g.value) ≡ number_at Trap j)
+    go true = trap-place (pos 0) (omega (arith, ints)) (omega (arith, ints))
+    go false = trap-place (v -ℤ g.value) lower upper
+
+both-hold : (a b : Bool) → a && b ≡ true → b ≡ true
+both-hold true b both = both
+both-hold false b both = absurd (false≢true both)
+
+less-by : (a b : ℤ) → int_lt a b ≡ true → a <ℤ b
+less-by a b is = grind (arith, ints, nat_tests)
+
+waits-place : (v : ℤ) → pos 0 ≤ℤ v → v ≤ℤ pos 48 → (j : ℕ) × (j < 257) × (v ≡ number_at Waits j)
+waits-place (pos m) low high = (m, omega (arith, ints), omega (arith, ints))
+waits-place (negsuc m) low high = absurd (omega (arith, ints))
+
+moving-place : (moves n : ℕ) (value other : ℤ) → n ≤ 24 → neg_ℤ (pos n) ≤ℤ value → value ≤ℤ pos n → neg_ℤ (pos n) ≤ℤ other → other ≤ℤ pos n
+    → (j : ℕ) × (j < 257) × (lost_by_moving moves value other ≡ number_at Waits j)
+moving-place moves n value other few low high near far = go (is_zugzwang moves value other) refl
+  where
+    go : (b : Bool) → is_zugzwang moves value other ≡ b → (j : ℕ) × (j < 257) × (cond b (neg_ℤ other -ℤ value) (pos 0) ≡ number_at Waits j)
+    go true is =
+        let less : value <ℤ neg_ℤ other = less-by value (neg_ℤ other) (both-hold (nat_lt 0 moves) (int_lt value (neg_ℤ other)) is) in
+        waits-place (neg_ℤ other -ℤ value) (omega (arith, ints, less)) (omega (arith, ints))
+    go false is = waits-place (pos 0) (omega (arith, ints)) (omega (arith, ints))
+
+turned-whole : (board : List ℕ) → IsBoard board → IsBoard (turned board)
+turned-whole board whole = record {
+  pits = omega (arith, whole.pits, length-append (drop 6 board) (take 6 board), length-drop 6 board, length-take 6 board);
+  stones = omega (arith, whole.stones, sum-turned board);
+}
+
 counted-from_0 : (m : ℕ) → pos m ≡ pos m -ℤ pos 0
 counted-from_0 m = omega (arith, ints)
 
@@ -136,6 +203,26 @@ module _ (images : List Image) (image : Image) (level : ℕ) (shelf : IsShelf im
       let right = right_from_shelf images shelf board whole (omega (arith, known, stones)) in
       value-place (entry_of images board).value (sum board) (omega (arith, low, stones)) right.in_range.0 right.in_range.1
 
+  -- a value of a level up to this one
+  any-value : (board : List ℕ) → IsBoard board → sum board ≤ level → (neg_ℤ (pos (sum board)) ≤ℤ (entry_of images board).value) × ((entry_of images board).value ≤ℤ pos (sum board))
+  any-value board whole few =
+      let right = right_from_shelf images shelf board whole (omega (arith, known, few)) in
+      (right.in_range.0, right.in_range.1)
+
+  gains-near : (board : List ℕ) → IsBoard board → sum board ≡ level → IsNear (greediest (gains_in images board))
+  gains-near board whole stones = greediest-near (gained_by images board) own_pits no_capture (omega (arith, ints), omega (arith, ints)) each
+    where
+      each : (x : ℕ) → IfSome (gained_by images board x) IsNear
+      each x = go (is_legal board x) refl
+        where
+          go : (b : Bool) → is_legal board x ≡ b → IfSome (cond b (Some (record { captured = captured board x; value = pos (captured board x) -ℤ (entry_of images (next_board board x)).value })) None) IsNear
+          go true e =
+              let move = IsMove-from_tests board x (captured board x) (next_board board x) e refl refl in
+              let kept = sum-from_IsMove board x (captured board x) (next_board board x) whole.pits move in
+              let (least, most) = any-value (next_board board x) (IsBoard-next board x (captured board x) (next_board board x) whole move) (omega (arith, kept, stones)) in
+              gain-near (captured board x) (sum (next_board board x)) (entry_of images (next_board board x)).value (omega (arith, kept, stones, low)) (omega (arith, kept, stones, low)) least most
+          go false e = tt
+
   near : (i : ℕ) → i < length image.entries → (get_or image.entries i no_entry).dist ≤ image.limit
   near i inside = omega (arith, consistent.limited, above_each (λ x. x.dist) image.entries 0 i (get_or image.entries i no_entry) (slice_get-get_or image.entries i no_entry inside))
 
@@ -168,6 +255,19 @@ module _ (images : List Image) (image : Image) (level : ℕ) (shelf : IsShelf im
   placed-on Keep board counted whole stones =
       placed images image.limit Keep board (keeping_moves images board)
       (few-moves (keeping_moves images board) (length (gains_in images board)) (count_by-le-length (gains (entry_of images board).value) (gains_in images board)) (length-map own_pits (gained_by images board))) (counted-from_0 (keeping_moves images board))
+  placed-on Trap board counted whole stones =
+      let (least, most) = any-value board whole (omega (arith, stones)) in
+      let (j, below, is) = lost-place (entry_of images board).value (greediest (gains_in images board)) (sum board) (omega (arith, low, stones)) least most (gains-near board whole stones) in
+      placed images image.limit Trap board j below is
+  placed-on Other board counted whole stones =
+      let (j, below, is) = own-value (turned board) (turned-whole board whole) (sum-turned board ∙ stones) in
+      placed images image.limit Other board j below is
+  placed-on Waits board counted whole stones =
+      let (least, most) = any-value board whole (omega (arith, stones)) in
+      let (near, far) = any-value (turned board) (turned-whole board whole) (omega (arith, stones, sum-turned board)) in
+      let same : sum (turned board) ≡ sum board = sum-turned board in
+      let (j, below, is) = moving-place (legal_moves board) (sum board) (entry_of images board).value (other_value images board) (omega (arith, low, stones)) least most (rw same at near) (rw same at far) in
+      placed images image.limit Waits board j below is
 
   all_placed : (column : Column) → column ≢ Rank → All (HasPlace images image.limit column) (tuples 12 level)
   unfolding size_of

@@ -6,7 +6,7 @@ use Rattle.std.specs.List.{flat_map, range_with_len}
 use Rattle.std.specs.Ordering.{int_eq}
 use Rattle.awari_folder.specs.Contents.{Stands}
 use Rattle.awari_facts.specs.Loads.{HasLevel}
-use Rattle.awari_facts.specs.Numbers.{number_in}
+use Rattle.awari_facts.specs.Numbers.{column_member, number_in}
 use Rattle.awari_facts.specs.Sources.{IsSaidOf, limit_of}
 use Rattle.awari_members.specs.Forms.{form_of}
 use Rattle.awari_queries.specs.Columns.{AsksForPair, name_of}
@@ -18,7 +18,7 @@ use Rattle.awari_queries.specs.declared.questions.CountsQuery.{CountsQuery}
 use Rattle.awari_rank.specs.Tuples.{tuples}
 use Rattle.awari_table.specs.declared.images.Image.{Image}
 use Rattle.awari_counts.specs.Ranges.{number_at, width_of}
-use Rattle.awari_counts.specs.Rows.{column_member, row_lines}
+use Rattle.awari_counts.specs.Rows.{row_lines}
 
 -- the board has these numbers of two columns
 abbrev pub has_pair : List Image → Column → Column → ℤ → ℤ → List ℕ → Bool

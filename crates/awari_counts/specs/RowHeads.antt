@@ -1,7 +1,8 @@
 -- What the lines of a row begin with. Private functions alone go by this: no public contract does.
 use Rattle.std.specs.Prelude.{List, ◌∷◌, [], Option, Some, None}
 use Rattle.awari_counts.specs.Ranges.{number_at}
-use Rattle.awari_counts.specs.Rows.{column_member, head_of}
+use Rattle.awari_facts.specs.Numbers.{column_member}
+use Rattle.awari_counts.specs.Rows.{head_of}
 use Rattle.awari_counts.specs.declared.rows.Placed.{Placed}
 use Rattle.awari_counts.specs.declared.rows.Row.{Row}
 use Rattle.awari_members.specs.Members.{Named}

@@ -1,29 +1,13 @@
 -- Rows of numbers of boards: a line for each number of a column that some boards have.
-use Rattle.std.specs.Prelude.{ℕ, Bool, false, if◌then◌else◌, List, ◌++◌, ◌∷◌, [], codes, ℤ, pos, int_lt}
-use Rattle.std.specs.Fmt.{signed_decimal}
+use Rattle.std.specs.Prelude.{ℕ, List, ◌++◌, ◌∷◌, [], codes}
 use Rattle.std.specs.List.{flat_map, range_with_len}
-use Rattle.awari_members.specs.Members.{Named, line_text, missing, number, share_line, text}
+use Rattle.awari_members.specs.Members.{Named, line_text, number, share_line, text}
 use Rattle.awari_members.specs.declared.forms.Form.{Form}
 use Rattle.awari_members.specs.declared.forms.Form.TheVariants.{Text, Csv, Json}
 use Rattle.awari_queries.specs.Columns.{name_of}
 use Rattle.awari_queries.specs.declared.columns.Column.{Column}
-use Rattle.awari_queries.specs.declared.columns.Column.TheVariants.{Rank, Value, Distance, Plan, Captures, Greedy, Moves, Keep}
+use Rattle.awari_facts.specs.Numbers.{column_member}
 use Rattle.awari_counts.specs.Ranges.{number_at}
-
--- there is no such number: -1 stands for no plan, or for no capture
-abbrev pub is_none : Column → ℤ → Bool
-is_none Rank n = false
-is_none Value n = false
-is_none Distance n = false
-is_none Plan n = int_lt n (pos 0)
-is_none Captures n = int_lt n (pos 0)
-is_none Greedy n = int_lt n (pos 0)
-is_none Moves n = false
-is_none Keep n = false
-
--- a column with its number, or with what stands for none
-abbrev pub column_member : Column → ℤ → Named
-column_member column n = record { name = name_of column; value = if is_none column n then missing else (λ form. signed_decimal n) }
 
 -- what stands before the numbers of one column: in CSV its name
 abbrev pub head_of : Form → Column → List Named

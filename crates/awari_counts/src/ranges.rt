@@ -10,9 +10,10 @@ fn below_of(column: Column) -> i64
     ensures { result ≡ pos (below_of column) }
 {
     match column {
-        Column::Value => 128,
+        Column::Value | Column::Other => 128,
         Column::Plan | Column::Captures | Column::Greedy => 1,
-        Column::Rank | Column::Distance | Column::Moves | Column::Keep => 0,
+        Column::Trap => 280,
+        Column::Rank | Column::Distance | Column::Moves | Column::Keep | Column::Waits => 0,
     }
 }
 
@@ -23,7 +24,9 @@ pub(crate) fn width_of(column: Column, limit: u32) -> usize
 {
     match column {
         Column::Rank => 0,
-        Column::Value => 256,
+        Column::Value | Column::Other => 256,
+        Column::Trap => 535,
+        Column::Waits => 257,
         Column::Distance => limit as usize + 1,
         Column::Captures | Column::Greedy => 26,
         Column::Plan | Column::Moves | Column::Keep => 7,

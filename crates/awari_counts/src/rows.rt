@@ -4,24 +4,16 @@ ghost use Rattle.std.specs.Prelude.{◌≡◌, ◌<◌, ◌≤◌, ◌++◌, ◌
 ghost use Rattle.std.specs.Io.KnownBytes.{Appends};
 ghost use Rattle.awari_counts.specs.Ranges.{number_at};
 ghost use Rattle.awari_counts.specs.RowHeads.{heads};
-ghost use Rattle.awari_counts.specs.Rows.{column_member, is_none, row_lines, share_text};
+ghost use Rattle.awari_counts.specs.Rows.{row_lines, share_text};
+ghost use Rattle.awari_facts.specs.Numbers.{column_member};
 ghost use Rattle.awari_members.specs.Members.{said};
 
 use crate::ranges::number_at;
 use crate::shown::print_line;
-use awari_members::{Form, Member, Value};
+use awari_facts::member_of;
+use awari_members::{Form, Member};
 use awari_queries::Column;
 use std::io::Write;
-
-/// Whether the number of a column stands for none.
-fn is_none(column: Column, number: i64) -> bool
-    ensures { result ≡ is_none column number }
-{
-    match column {
-        Column::Plan | Column::Captures | Column::Greedy => number < 0,
-        Column::Rank | Column::Value | Column::Distance | Column::Moves | Column::Keep => false,
-    }
-}
 
 /// A number of a column, by its place.
 #[derive(Clone, Copy)]
@@ -35,14 +27,7 @@ fn member_at(placed: Placed) -> Member<'static>
     ensures { said result ≡ column_member placed.column (number_at placed.column placed.place) }
 {
     let Placed { column, place } = placed;
-    let number = number_at(column, place);
-    if is_none(column, number) {
-        return Member {
-            name: column.name(),
-            value: Value::Missing,
-        };
-    }
-    Member::signed(column.name(), number)
+    member_of(column, number_at(column, place))
 }
 
 /// A row of numbers of boards.

@@ -60,9 +60,25 @@ moves_gaining value moves = count_by (gains value) moves
 abbrev pub keeping_moves : List Image → List ℕ → ℕ
 keeping_moves images board = moves_gaining (entry_of images board).value (gains_in images board)
 
--- The board is worth less to the mover than it would be if the opponent had to move.
+-- what the board would be worth to the opponent, if the opponent were to move: the value of the board turned
+abbrev pub other_value : List Image → List ℕ → ℤ
+other_value images board = (entry_of images (turned board)).value
+
+-- A board with this many legal moves is zugzwang if one is legal, and the board is worth less to the mover than it would be if the
+-- opponent had to move. It has this value to the mover, and the other one to the opponent who has to move.
+abbrev pub is_zugzwang : ℕ → ℤ → ℤ → Bool
+is_zugzwang moves value other = nat_lt 0 moves && int_lt value (neg_ℤ other)
+
+-- how many stones less: the mover loses them by having to move; 0 if the board is not zugzwang
+abbrev pub lost_by_moving : ℕ → ℤ → ℤ → ℤ
+lost_by_moving moves value other = if is_zugzwang moves value other then neg_ℤ other -ℤ value else pos 0
+
+-- both of a board, by what the levels say
 abbrev pub waits : List Image → List ℕ → Bool
-waits images board = int_lt (entry_of images board).value (neg_ℤ (entry_of images (turned board)).value)
+waits images board = is_zugzwang (legal_moves board) (entry_of images board).value (other_value images board)
+
+abbrev pub waits_by : List Image → List ℕ → ℤ
+waits_by images board = lost_by_moving (legal_moves board) (entry_of images board).value (other_value images board)
 
 -- the one of two moves that captures more; of those that capture as many, the one that gains more
 abbrev pub greedier : Gained → Option Gained → Gained
@@ -80,3 +96,7 @@ greediest moves = fold greedier no_capture moves
 -- what is thrown away by the move that captures most, if this is the value: the value less what it gains; 0 if no move captures
 abbrev pub lost_by : ℤ → Gained → ℤ
 lost_by value g = if g.captured == 0 then pos 0 else value -ℤ g.value
+
+-- the board's trap
+abbrev pub trap_of : List Image → List ℕ → ℤ
+trap_of images board = lost_by (entry_of images board).value (greediest (gains_in images board))

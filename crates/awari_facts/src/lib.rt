@@ -24,8 +24,10 @@ mod sources;
 
 pub use facts::{largest_capture, legal_moves, own_stones, plan_captures};
 pub use loads::{load_to, open_all, open_to};
-pub use looks::{Gained, Gains, gains_of, moves_gaining, trap_by, waits};
-pub use numbers::{Seen, is_own, number_of, own_number};
+pub use looks::{
+    Gained, Gains, gains_of, is_zugzwang, lost_by_moving, moves_gaining, other_value, trap_by,
+};
+pub use numbers::{Seen, is_own, member_of, number_of, own_number};
 pub use sources::{
     Levels, Source, count_levels, entry_at, entry_on, levels_in, limit_on, read_entry, read_limit,
     value_on,

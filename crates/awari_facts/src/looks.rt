@@ -1,13 +1,14 @@
 //! What is known of a board by the boards that its moves leave, and by the board turned.
 
-ghost use Rattle.std.specs.Prelude.{◌≡◌, ◌<◌, ◌-ℤ◌, ℕ, List, IfSome, IsNone, int_lt, length, neg_ℤ, pos, sum};
+ghost use Rattle.std.specs.Prelude.{◌≡◌, ◌<◌, ◌-ℤ◌, ℕ, List, IfSome, IsNone, length, pos, sum};
 ghost use Rattle.awari_board.specs.Rules.{IsLegal};
 ghost use Rattle.awari_rank.specs.Rank.{size_of};
-ghost use Rattle.awari_facts.specs.Facts.{gained_by, gains, gains_in, greedier, greediest, lost_by, moves_gaining};
+ghost use Rattle.awari_facts.specs.Facts.{gained_by, gains, gains_in, greedier, greediest, is_zugzwang, lost_by, lost_by_moving, moves_gaining, other_value};
 ghost use Rattle.awari_facts.specs.Left.{IsLeft};
+ghost use Rattle.awari_facts.specs.Numbers.{IsNumber};
 ghost use Rattle.awari_facts.specs.Sources.{images_of};
 
-use crate::sources::{Levels, value_at};
+use crate::sources::{Levels, value_at, value_on};
 use awari_board::SIDE;
 use awari_packed::PackedBoard;
 
@@ -153,7 +154,8 @@ fn greediest(moves: &Gains) -> Gained
 
 /// What the mover throws away of this value by the move that captures most: 0 if no move captures.
 pub fn trap_by(moves: &Gains, value: i8) -> i64
-    ensures { result ≡ lost_by value (greediest moves.now) }
+    ensures lost { result ≡ lost_by value (greediest moves.now) }
+    ensures least { IsNumber result }
 {
     let most = greediest(moves);
     if most.captured == 0 {
@@ -162,10 +164,29 @@ pub fn trap_by(moves: &Gains, value: i8) -> i64
     i64::from(value) - i64::from(most.value)
 }
 
-/// Whether a board of the first value is worth less to the mover than if the opponent had to move, who has
-/// then a board of the other value.
-pub fn waits(value: i8, other: i8) -> bool
-    ensures { result ≡ int_lt value (neg_ℤ other) }
+/// What the board would be worth to the opponent, if the opponent were to move. Condition: its level is there.
+pub fn other_value(levels: Levels<'_>, board: &PackedBoard) -> i8
+    requires { sum board.now < length (images_of levels) }
+    ensures { result ≡ other_value (images_of levels.entry) board.now }
 {
-    i16::from(value) < -i16::from(other)
+    value_on(levels, &board.turned())
+}
+
+/// Whether a board with this many legal moves is zugzwang: one is legal, and the value is less than what the
+/// board would be worth to the mover if the opponent had to move, to whom it has then the other value.
+pub fn is_zugzwang(moves: u8, value: i8, other: i8) -> bool
+    ensures { result ≡ is_zugzwang moves value other }
+{
+    moves > 0 && i16::from(value) < -i16::from(other)
+}
+
+/// How many stones less: the mover loses them by having to move. It is 0 if the board is not zugzwang.
+pub fn lost_by_moving(moves: u8, value: i8, other: i8) -> i64
+    ensures lost { result ≡ lost_by_moving moves value other }
+    ensures least { IsNumber result }
+{
+    if !is_zugzwang(moves, value, other) {
+        return 0;
+    }
+    -i64::from(other) - i64::from(value)
 }

@@ -14,6 +14,7 @@ use Rattle.awari_facts.specs.Numbers.{IsAt}
 use Rattle.awari_levels.specs.Listing.{due_boards, each, farthest_among, farthest_of, fits, is_weighed, is_within, passes, passing, suits, taken_boards, takes, wanted_boards}
 use Rattle.awari_levels.specs.Walks.{Chosen}
 use Rattle.awari_members.specs.declared.forms.Form.TheVariants.{Text}
+use Rattle.awari_queries.specs.declared.boards.Added.{Added}
 use Rattle.awari_queries.specs.declared.boards.Spans.{Spans}
 use Rattle.awari_levels.specs.declared.wanted.Wanted.{Wanted}
 
@@ -140,10 +141,13 @@ each-one before (x ∷ xs) =
 
 -- what asks for nothing
 abbrev pub no_spans : Spans
-no_spans = record { value = None; distance = None; plan = None; captures = None; greedy = None; side = None; moves = None; keep = None; trap = None }
+no_spans = record { value = None; distance = None; plan = None; captures = None; greedy = None; side = None; moves = None; keep = None; trap = None; other = None }
+
+abbrev pub none_added : Added
+none_added = record { moves = false; keep = false; greedy = false; trap = false; other = false; waits = false }
 
 abbrev pub all : Wanted
-all = record { spans = no_spans; waits = false; ended = false; running = false; farthest = false; every = 1; random = 0; seed = 0; order = None; most = 0; with_moves = false; with_keep = false; count = false; form = Text }
+all = record { spans = no_spans; waits = false; ended = false; running = false; farthest = false; every = 1; random = 0; seed = 0; order = None; most = 0; added = none_added; count = false; form = Text }
 
 all_pass : (farthest : ℕ) (images : List Image) (board : List ℕ) → passes all farthest images board ≡ true
 unfolding passes is_within fits suits takes is_weighed

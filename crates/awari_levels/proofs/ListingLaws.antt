@@ -1,5 +1,5 @@
 -- Lines of boards, some written and some kept; and boards that are held.
-use Rattle.std.proofs.Common.{◌≡◌, ℕ, true, false, cond, length, List, [], ◌∷◌, ◌++◌, Option, sym, ◌∙◌, ap, subst, append_assoc, append-nil}
+use Rattle.std.proofs.Common.{◌≡◌, ℕ, true, false, cond, length, List, [], ◌∷◌, ◌++◌, Option, ℤ, sym, ◌∙◌, ap, subst, append_assoc, append-nil}
 use Rattle.std.proofs.KnownBytes.{Appends-nil, Appends-trans}
 use Rattle.std.proofs.lemmas.Grind.{flat_map-append}
 use Rattle.std.specs.Fmt.{decimal}
@@ -67,11 +67,12 @@ wanted-count images level wanted count before after asked is line =
 
 -- ---- the numbers of a line
 
-abbrev pub the_numbers : Entry → Option ℕ → Option ℕ → LineNumbers
-the_numbers e moves keep = record { entry = e; moves = moves; keep = keep }
+abbrev pub the_numbers : Entry → Option ℤ → Option ℤ → Option ℤ → Option ℤ → Option ℤ → Option ℤ → LineNumbers
+the_numbers e moves keep greedy trap other waits = record { entry = e; moves = moves; keep = keep; greedy = greedy; trap = trap; other = other; waits = waits }
 
-pub numbers_are : (e f : Entry) (moves legal keep kept : Option ℕ) → e ≡ f → moves ≡ legal → keep ≡ kept → the_numbers e moves keep ≡ the_numbers f legal kept
-numbers_are e f moves legal keep kept one two three = ap (λ (x : Entry). the_numbers x moves keep) one ∙ ap (λ m. the_numbers f m keep) two ∙ ap (λ k. the_numbers f legal k) three
+pub numbers_are : {e e2 : Entry} {m m2 k k2 g g2 t t2 o o2 w w2 : Option ℤ} → e ≡ e2 → m ≡ m2 → k ≡ k2 → g ≡ g2 → t ≡ t2 → o ≡ o2 → w ≡ w2
+    → the_numbers e m k g t o w ≡ the_numbers e2 m2 k2 g2 t2 o2 w2
+numbers_are one two three four five six seven = cc
 
 -- the same lines by other names of the level and of what is wanted
 pub asked-lines : (images : List Image) (level other : ℕ) (wanted given : Wanted) (before after : Option (List ℕ)) → level ≡ other → wanted ≡ given → AppendsWanted images level wanted before after

@@ -1,16 +1,15 @@
 -- Which boards are wanted, test by test.
-use Rattle.std.proofs.Common.{◌≡◌, ◌&&◌, not, Bool, true, false, cond, ◌<◌, List, length, get_or, nat_lt, slice_get, Option, Some, None, ℕ, ℤ, neg_ℤ, int_lt, refl, sym, ap, ◌∙◌, arith}
+use Rattle.std.proofs.Common.{◌≡◌, ◌&&◌, Bool, true, false, cond, ◌<◌, List, length, get_or, nat_lt, slice_get, Option, Some, None, ℕ, ℤ, refl, sym, ap, ◌∙◌, arith}
 use Rattle.std.proofs.lemmas.Bool.Decides.{nat_tests}
 use Rattle.std.proofs.lemmas.Option.{get_or_from_slice_get}
 use Rattle.std.specs.Borrow.{Bor}
 use Rattle.std.specs.Prelude.{IfSome}
 use Rattle.core.specs.Option.{is_some, option_copied}
-use Rattle.awari_board.specs.Rules.{turned}
-use Rattle.awari_facts.specs.Facts.{gains_in, waits}
+use Rattle.awari_facts.specs.Facts.{gains_in, legal_moves, other_value}
 use Rattle.awari_table.specs.Images.{entry_of}
 use Rattle.awari_table.specs.declared.images.Entry.{Entry}
 use Rattle.awari_table.specs.declared.images.Image.{Image}
-use Rattle.awari_levels.specs.Listing.{fits, is_weighed, is_within, key_if, sort_key, suits, weighs}
+use Rattle.awari_levels.specs.Listing.{fits, is_weighed, is_within, key_if, sort_key, suits, turns, weighs}
 use Rattle.awari_levels.specs.declared.wanted.Wanted.{Wanted}
 
 both-first : (a b : Bool) → a ≡ false → false ≡ (a && b)
@@ -25,27 +24,13 @@ pub weighed-none : (wanted : Wanted) (images : List Image) (board : List ℕ) (v
     → false ≡ is_weighed wanted images board
 unfolding is_weighed
 weighed-none wanted images board value worth none =
-    both-first _ (not (wanted.waits && not (waits images board))) (ap (weighs wanted.spans (gains_in images board)) (sym worth) ∙ none)
+    both-first _ (turns wanted (legal_moves board) (entry_of images board).value (other_value images board)) (ap (weighs wanted.spans (gains_in images board)) (sym worth) ∙ none)
 
 pub weighed-last : (wanted : Wanted) (images : List Image) (board : List ℕ) (value : ℤ) (last : Bool) → value ≡ (entry_of images board).value → weighs wanted.spans (gains_in images board) value ≡ true
-    → last ≡ not (wanted.waits && not (waits images board)) → last ≡ is_weighed wanted images board
+    → last ≡ turns wanted (legal_moves board) (entry_of images board).value (other_value images board) → last ≡ is_weighed wanted images board
 unfolding is_weighed
 weighed-last wanted images board value last worth some is =
-    both-last _ (not (wanted.waits && not (waits images board))) last (ap (weighs wanted.spans (gains_in images board)) (sym worth) ∙ some) is
-
-pub waits-unasked : (wanted : Wanted) (images : List Image) (board : List ℕ) → wanted.waits ≡ false → true ≡ not (wanted.waits && not (waits images board))
-waits-unasked wanted images board unasked = sym (ap (λ b. not (b && not (waits images board))) unasked)
-
-twice : (b : Bool) → b ≡ not (not b)
-twice true = refl
-twice false = refl
-
-pub waits-asked : (wanted : Wanted) (images : List Image) (board other : List ℕ) (value worth : ℤ) (wait : Bool) → wanted.waits ≡ true → value ≡ (entry_of images board).value
-    → worth ≡ (entry_of images other).value → other ≡ turned board → wait ≡ int_lt value (neg_ℤ worth) → wait ≡ not (wanted.waits && not (waits images board))
-waits-asked wanted images board other value worth wait asked is said same waiting =
-    let waited : wait ≡ waits images board =
-    waiting ∙ ap (λ v. int_lt v (neg_ℤ worth)) is ∙ ap (λ v. int_lt (entry_of images board).value (neg_ℤ v)) (said ∙ ap (λ b. (entry_of images b).value) same) in
-    waited ∙ twice (waits images board) ∙ sym (ap (λ b. not (b && not (waits images board))) asked)
+    both-last _ (turns wanted (legal_moves board) (entry_of images board).value (other_value images board)) last (ap (weighs wanted.spans (gains_in images board)) (sym worth) ∙ some) is
 
 -- ---- is_within
 

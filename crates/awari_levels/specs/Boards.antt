@@ -34,8 +34,7 @@ pub record IsWanted (query : BoardsQuery) (wanted : Wanted) : Type 0 where
   pub every : wanted.every ≡ max 1 query.every
   pub random : wanted.random ≡ query.random
   pub seed : wanted.seed ≡ query.seed
-  pub with_moves : wanted.with_moves ≡ query.with_moves
-  pub with_keep : wanted.with_keep ≡ query.with_keep
+  pub added : wanted.added ≡ query.added
   pub order : AsksForOrder query.sort wanted.order
   pub most : wanted.most ≡ query.most
   pub count : wanted.count ≡ query.count

@@ -1,12 +1,12 @@
 -- The commands `boards` and `text --boards`: which boards of a level are wanted, and what is printed of them.
-use Rattle.std.specs.Prelude.{◌≡◌, ◌⊎◌, ℕ, ◌+◌, ◌%◌, ◌==◌, nat_lt, Bool, true, false, not, ◌&&◌, ◌||◌, if◌then◌else◌, List, ◌++◌, ◌∷◌, [], length, filter, map, codes, pos, Option, Some, None, ℤ}
+use Rattle.std.specs.Prelude.{◌≡◌, ◌⊎◌, ℕ, ◌+◌, ◌%◌, ◌==◌, nat_lt, Bool, true, false, not, ◌&&◌, ◌||◌, if◌then◌else◌, List, ◌++◌, ◌∷◌, [], length, filter, map, pos, Option, Some, None, ℤ}
 use Rattle.core.specs.Option.{is_some}
 use Rattle.std.specs.Io.KnownBytes.{Appends}
 use Rattle.std.specs.List.{flat_map}
 use Rattle.awari_folder.specs.Contents.{Stands}
 use Rattle.awari_board.specs.Rules.{own_stones}
-use Rattle.awari_facts.specs.Facts.{captures_by, gains_in, keeping_moves, greediest, largest_capture, legal_moves, lost_by, moves_gaining, waits}
-use Rattle.awari_facts.specs.Numbers.{is_own, number_in}
+use Rattle.awari_facts.specs.Facts.{captures_by, gains_in, is_zugzwang, greediest, largest_capture, legal_moves, lost_by, moves_gaining, other_value}
+use Rattle.awari_facts.specs.Numbers.{column_member, is_own, number_in}
 use Rattle.awari_facts.specs.Sources.{IsUnreadFrom}
 use Rattle.awari_facts.specs.declared.sources.Source.{Source}
 use Rattle.awari_folder.specs.declared.faults.FolderFault.{FolderFault}
@@ -16,11 +16,14 @@ use Rattle.awari_queries.specs.Draws.{draw_of, taken}
 use Rattle.awari_queries.specs.Holding.{first, sorted}
 use Rattle.awari_queries.specs.Orders.{key_of}
 use Rattle.awari_queries.specs.Spans.{has, is_in}
-use Rattle.awari_members.specs.Members.{Named, names_text, number, row_text}
+use Rattle.awari_members.specs.Members.{Named, names_text, row_text}
 use Rattle.awari_shown.specs.Json.{entry_members}
 use Rattle.awari_members.specs.declared.forms.Form.{Form}
 use Rattle.awari_members.specs.declared.forms.Form.TheVariants.{Text, Csv, Json}
+use Rattle.awari_queries.specs.declared.boards.Added.{Added}
 use Rattle.awari_queries.specs.declared.boards.Spans.{Spans}
+use Rattle.awari_queries.specs.declared.columns.Column.{Column}
+use Rattle.awari_queries.specs.declared.columns.Column.TheVariants.{Moves, Keep, Greedy, Trap, Other, Waits}
 use Rattle.awari_queries.specs.declared.orders.Order.{Order}
 use Rattle.awari_rank.specs.Tuples.{tuples}
 use Rattle.awari_table.specs.Images.{entry_of, greatest_dist, no_entry}
@@ -29,22 +32,35 @@ use Rattle.awari_table.specs.declared.images.Image.{Image}
 use Rattle.awari_levels.specs.declared.batches.LineNumbers.{LineNumbers}
 use Rattle.awari_levels.specs.declared.wanted.Wanted.{Wanted}
 
--- the numbers of a board's line: its entry, and how many moves are legal and keep its value, if they are asked for
+-- the number of a column, if it is asked for
+abbrev pub number_if : Bool → List Image → Column → List ℕ → Option ℤ
+number_if asked images column board = if asked then Some (number_in images column board) else None
+
+-- the numbers of a board's line: its entry, and further ones that are asked for
 abbrev pub numbers_of : Wanted → List Image → List ℕ → LineNumbers
 numbers_of wanted images board = record {
   entry = entry_of images board;
-  moves = if wanted.with_moves then Some (legal_moves board) else None;
-  keep = if wanted.with_keep then Some (keeping_moves images board) else None;
+  moves = number_if wanted.added.moves images Moves board;
+  keep = number_if wanted.added.keep images Keep board;
+  greedy = number_if wanted.added.greedy images Greedy board;
+  trap = number_if wanted.added.trap images Trap board;
+  other = number_if wanted.added.other images Other board;
+  waits = number_if wanted.added.waits images Waits board;
 }
 
--- a number as a member, if it is asked for
-abbrev pub asked_member : List ℕ → Option ℕ → List Named
-asked_member name None = []
-asked_member name (Some n) = number name n ∷ []
+-- one of these, if it is asked for
+abbrev pub asked_member : Column → Option ℤ → List Named
+asked_member column None = []
+asked_member column (Some n) = column_member column n ∷ []
+
+-- all of these
+abbrev pub added_members : LineNumbers → List Named
+added_members n = asked_member Moves n.moves ++ (asked_member Keep n.keep ++ (asked_member Greedy n.greedy ++ (asked_member Trap n.trap
+    ++ (asked_member Other n.other ++ asked_member Waits n.waits))))
 
 -- the members of a board's line: those of its entry, and the numbers that are asked for
 abbrev pub line_members : List ℕ → LineNumbers → List Named
-line_members board n = entry_members board n.entry ++ (asked_member (codes "moves") n.moves ++ asked_member (codes "keep") n.keep)
+line_members board n = entry_members board n.entry ++ added_members n
 
 -- its line, with its line feed (10)
 abbrev pub line_of : Form → List ℕ → LineNumbers → List ℕ
@@ -54,17 +70,28 @@ abbrev pub board_line : Wanted → List Image → List ℕ → List ℕ
 board_line wanted images board = line_of wanted.form board (numbers_of wanted images board)
 
 -- numbers of no board, for the names that lines with those that are asked for have
-abbrev pub names_asked : Bool → Bool → LineNumbers
-names_asked moves keep = record { entry = no_entry; moves = if moves then Some 0 else None; keep = if keep then Some 0 else None }
+abbrev pub zero_if : Bool → Option ℤ
+zero_if asked = if asked then Some (pos 0) else None
+
+abbrev pub names_asked : Added → LineNumbers
+names_asked added = record {
+  entry = no_entry;
+  moves = zero_if added.moves;
+  keep = zero_if added.keep;
+  greedy = zero_if added.greedy;
+  trap = zero_if added.trap;
+  other = zero_if added.other;
+  waits = zero_if added.waits;
+}
 
 -- what stands above the lines: of CSV the names of their members
-unfoldable pub header_text : Form → Bool → Bool → List ℕ
-header_text Text moves keep = []
-header_text Csv moves keep = names_text (line_members [] (names_asked moves keep)) ++ 10 ∷ []
-header_text Json moves keep = []
+unfoldable pub header_text : Form → Added → List ℕ
+header_text Text added = []
+header_text Csv added = names_text (line_members [] (names_asked added)) ++ 10 ∷ []
+header_text Json added = []
 
 abbrev pub header_of : Wanted → List ℕ
-header_of wanted = header_text wanted.form wanted.with_moves wanted.with_keep
+header_of wanted = header_text wanted.form wanted.added
 
 -- the lines of boards, with what the levels say of each
 abbrev pub board_lines : Wanted → List Image → List (List ℕ) → List ℕ
@@ -104,9 +131,19 @@ weighs spans moves value = is_in spans.keep (pos (moves_gaining value moves)) &&
 abbrev pub asks_moves : Spans → Bool
 asks_moves spans = is_some spans.keep || is_some spans.trap
 
--- so it is of the board, by what the levels say, and it is a burden to move, if that is asked for
+-- The board turned has a value that is asked for, on a board with this many legal moves and of this value; and it is a burden to
+-- move, if that is asked for.
+abbrev pub turns : Wanted → ℕ → ℤ → ℤ → Bool
+turns wanted moves value other = is_in wanted.spans.other other && not (wanted.waits && not (is_zugzwang moves value other))
+
+-- something is asked of the board turned
+abbrev pub asks_turned : Wanted → Bool
+asks_turned wanted = wanted.waits || is_some wanted.spans.other
+
+-- both are so of the board, by what the levels say
 unfoldable pub is_weighed : Wanted → List Image → List ℕ → Bool
-is_weighed wanted images board = weighs wanted.spans (gains_in images board) (entry_of images board).value && not (wanted.waits && not (waits images board))
+is_weighed wanted images board =
+    weighs wanted.spans (gains_in images board) (entry_of images board).value && turns wanted (legal_moves board) (entry_of images board).value (other_value images board)
 
 -- the board has all of that
 unfoldable pub is_within : Wanted → List Image → List ℕ → Bool
@@ -126,12 +163,16 @@ abbrev pub sorts_by_own : Option Order → Bool
 sorts_by_own None = true
 sorts_by_own (Some order) = is_own order.by
 
+-- lines have a number that other boards say
+abbrev pub adds_others : Added → Bool
+adds_others added = added.keep || (added.trap || (added.other || added.waits))
+
 -- An entry and the rules say of a board whether it is wanted, and all that is printed of it: nothing is asked of what other boards are
 -- worth.
 pub record IsAlone (wanted : Wanted) : Type 0 where
-  pub waits : wanted.waits ≡ false
+  pub turned : asks_turned wanted ≡ false
   pub moves : asks_moves wanted.spans ≡ false
-  pub keep : wanted.with_keep ≡ false
+  pub added : adds_others wanted.added ≡ false
   pub order : sorts_by_own wanted.order ≡ true
 
 -- the greatest distance of those of these boards, 0 if there are none

@@ -20,7 +20,7 @@ use awari_facts::{Levels, Source, load_to, open_to};
 use awari_folder::{Folder, FolderFault};
 use awari_members::{Form, form_of};
 use awari_places::{Said, read_levels};
-use awari_queries::{BoardsQuery, Spans, asked_order, asked_spans};
+use awari_queries::{Added, BoardsQuery, Spans, asked_order, asked_spans};
 use awari_table::{HIGHEST_LEVEL, Shelf};
 use std::alloc::Global;
 use std::io::Write;
@@ -38,6 +38,7 @@ const ALL: Wanted = Wanted {
         moves: None,
         keep: None,
         trap: None,
+        other: None,
     },
     waits: false,
     ended: false,
@@ -48,8 +49,14 @@ const ALL: Wanted = Wanted {
     seed: 0,
     order: None,
     most: 0,
-    with_moves: false,
-    with_keep: false,
+    added: Added {
+        moves: false,
+        keep: false,
+        greedy: false,
+        trap: false,
+        other: false,
+        waits: false,
+    },
     count: false,
     form: Form::Text,
 };
@@ -73,8 +80,7 @@ pub fn wanted_of(query: &BoardsQuery<'_>) -> Result<Wanted, NoAnswer>
         seed: query.seed,
         order,
         most: query.most,
-        with_moves: query.with_moves,
-        with_keep: query.with_keep,
+        added: query.added,
         count: query.count,
         form: form_of(query.json, query.csv),
     })

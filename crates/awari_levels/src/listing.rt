@@ -3,9 +3,9 @@
 ghost use Rattle.std.specs.Prelude.{◌≡◌, ◌<◌, ◌-◌, ◌↔◌, ℕ, true, if◌then◌else◌, max, List, Option, length, All, IfErr, IfOk, None, Ok, Some};
 ghost use Rattle.awari_folder.specs.Contents.{Stands};
 ghost use Rattle.awari_places.specs.Places.{IsLevelOf};
-ghost use Rattle.awari_facts.specs.Facts.{keeping_moves};
-ghost use Rattle.awari_facts.specs.Numbers.{IsAt};
+ghost use Rattle.awari_facts.specs.Numbers.{IsAt, is_own};
 ghost use Rattle.awari_facts.specs.Sources.{IsThere, SaysBy, levels_of};
+ghost use Rattle.awari_facts.specs.declared.sources.Source.TheVariants.{Files};
 ghost use Rattle.awari_folder.specs.State.{Unchanged};
 ghost use Rattle.awari_queries.specs.Draws.{taken};
 ghost use Rattle.awari_queries.specs.Holding.{first};
@@ -13,18 +13,18 @@ ghost use Rattle.awari_queries.specs.declared.holding.Held.{Held as AHeld};
 ghost use Rattle.awari_queries.specs.declared.orders.Order.{Order as AnOrder};
 ghost use Rattle.awari_rank.specs.Rank.{size_of};
 ghost use Rattle.awari_table.specs.declared.images.Image.{Image};
-ghost use Rattle.awari_levels.specs.Listing.{AppendsLines, IsListFault, due_boards, farthest_of, numbers_of, taken_boards, wanted_boards};
+ghost use Rattle.awari_levels.specs.Listing.{AppendsLines, IsListFault, due_boards, farthest_of, number_if, numbers_of, taken_boards, wanted_boards};
 ghost use Rattle.awari_levels.specs.Walks.{AreHeld, IsChoice};
 
 use crate::asked::Asked;
 use crate::batches::{LineNumbers, new_batch, push_board};
 use crate::walks::{Choice, look, new_walk, segment_for, step};
 use awari_answers::print_bytes;
-use awari_facts::{Seen, Source, entry_at, gains_of, legal_moves, moves_gaining, read_entry};
+use awari_facts::{Seen, Source, entry_at, number_of, own_number, read_entry};
 use awari_folder::{Folder, FolderFault};
 use awari_packed::PackedBoard;
 use awari_places::Run;
-use awari_queries::{Held, Holding, draw_of};
+use awari_queries::{Column, Held, Holding, draw_of};
 use awari_rank::{size, unrank};
 use std::alloc::Global;
 use std::io::Write;
@@ -127,21 +127,21 @@ fn choose<'a, R: Threads + Sync, F: Folder>(
     Ok(Choice { sample, ..all })
 }
 
-/// The moves of a board that keep its value, if that is asked for. Conditions: the level is there, and has so
-/// many boards.
-fn keeping(asked: Asked<'_>, seen: &Seen) -> Option<u8>
-    requires { IsThere (levels_of asked.source) seen.now.level seen.now.rank }
+/// The number of a column, if it is asked for. Conditions: the level is there, and has so many boards; of files,
+/// an entry and the rules say the number.
+fn number_if(asked: Asked<'_>, is_asked: bool, column: Column, seen: &Seen) -> Option<i64>
+    requires there { IsThere (levels_of asked.source) seen.now.level seen.now.rank }
+    requires own { is_asked ≡ true → (levels : ℕ) → asked.source ≡ Files levels → is_own column ≡ true }
     ensures { (stands : Stands) (images : List Image) → SaysBy asked.entry.source stands images → (board : List ℕ) → IsAt images seen.now.level seen.now.rank board seen.now.entry
-        → result ≡ (if asked.entry.wanted.now.with_keep then Some (keeping_moves images board) else None) }
+        → result ≡ number_if is_asked images column board }
 {
-    if !asked.wanted.with_keep {
+    if !is_asked {
         return None;
     }
-    let Source::Memory(levels) = asked.source else {
-        unreachable!()
-    };
-    let moves = gains_of(levels, &seen.board());
-    Some(moves_gaining(&moves, seen.entry.value))
+    match asked.source {
+        Source::Memory(levels) => Some(number_of(levels, column, seen)),
+        Source::Files(_) => own_number(column, seen),
+    }
 }
 
 /// The numbers of a board's line. Conditions: the level is there, and has that many boards.
@@ -150,16 +150,15 @@ fn numbers_of(asked: Asked<'_>, seen: &Seen) -> LineNumbers
     ensures { (stands : Stands) (images : List Image) → SaysBy asked.entry.source stands images → (board : List ℕ) → IsAt images seen.now.level seen.now.rank board seen.now.entry
         → result ≡ numbers_of asked.entry.wanted.now images board }
 {
-    let keep = keeping(asked, seen);
-    let moves = if asked.wanted.with_moves {
-        Some(legal_moves(&seen.board()))
-    } else {
-        None
-    };
+    let added = asked.wanted.added;
     LineNumbers {
         entry: seen.entry,
-        moves,
-        keep,
+        moves: number_if(asked, added.moves, Column::Moves, seen),
+        keep: number_if(asked, added.keep, Column::Keep, seen),
+        greedy: number_if(asked, added.greedy, Column::Greedy, seen),
+        trap: number_if(asked, added.trap, Column::Trap, seen),
+        other: number_if(asked, added.other, Column::Other, seen),
+        waits: number_if(asked, added.waits, Column::Waits, seen),
     }
 }
 
@@ -193,7 +192,7 @@ fn print_taken<R: Threads + Sync, F: Folder, W: Write>(
     let level = choice.asked.level;
     let wanted = choice.asked.wanted;
     let mut walk = new_walk(alloc, choice.asked, choice.sample)?;
-    let mut batch = new_batch(wanted.form, wanted.with_moves, wanted.with_keep);
+    let mut batch = new_batch(wanted.form, wanted.added);
     let mut left = wanted.most;
     for rank in 0..size(level) {
         let Some(taken) = step(rt, folder, choice, &mut walk, rank)? else {
@@ -277,7 +276,7 @@ fn print_held<F: Folder, W: Write>(
     ensures same { Unchanged (F.state folder.old) (F.state folder.new) }
 {
     let Asked { level, wanted, .. } = asked;
-    let mut batch = new_batch(wanted.form, wanted.with_moves, wanted.with_keep);
+    let mut batch = new_batch(wanted.form, wanted.added);
     for place in 0..held.len() {
         let rank = held[place].rank;
         let board = unrank(level, rank);

@@ -10,15 +10,15 @@ ghost use Rattle.awari_table.specs.Images.{entry_of};
 ghost use Rattle.awari_table.specs.declared.TheConstants.{HIGHEST_LEVEL};
 ghost use Rattle.awari_table.specs.declared.images.Entry.{Entry as AnEntry};
 ghost use Rattle.awari_table.specs.declared.images.Image.{Image};
-ghost use Rattle.awari_levels.specs.Listing.{IsAlone, asks_moves, fits, is_of_kind, is_weighed, is_within, key_if, suits, takes, weighs};
+ghost use Rattle.awari_levels.specs.Listing.{IsAlone, adds_others, asks_moves, asks_turned, fits, is_of_kind, is_weighed, is_within, key_if, suits, takes, turns, weighs};
 
 use awari_facts::{
-    Gains, Levels, Seen, gains_of, is_own, largest_capture, legal_moves, levels_in, moves_gaining,
-    number_of, own_number, own_stones, plan_captures, trap_by, value_on, waits,
+    Gains, Levels, Seen, gains_of, is_own, is_zugzwang, largest_capture, legal_moves, levels_in,
+    moves_gaining, number_of, other_value, own_number, own_stones, plan_captures, trap_by,
 };
 use awari_members::Form;
 use awari_packed::PackedBoard;
-use awari_queries::{Order, Spans, has, is_in, key_of};
+use awari_queries::{Added, Order, Spans, has, is_in, key_of};
 use awari_table::Entry;
 
 /// Which boards of a level are wanted, and how.
@@ -26,7 +26,7 @@ use awari_table::Entry;
 pub struct Wanted {
     /// Those whose numbers are in these.
     pub spans: Spans,
-    /// Those that are worth less than if the opponent had to move.
+    /// Those with a legal move that are worth less than if the opponent had to move.
     pub waits: bool,
     /// Those where the play has ended.
     pub ended: bool,
@@ -44,10 +44,8 @@ pub struct Wanted {
     pub order: Option<Order>,
     /// This many of the first ones; 0 is all.
     pub most: u32,
-    /// Whether each line has the number of legal moves.
-    pub with_moves: bool,
-    /// Whether each line has the number of those that keep the value.
-    pub with_keep: bool,
+    /// Which further numbers each line has.
+    pub added: Added,
     /// How many there are, and not the boards.
     pub count: bool,
     /// How they are printed.
@@ -124,6 +122,14 @@ fn asks_moves(spans: &Spans) -> bool
     spans.keep.is_some() || spans.trap.is_some()
 }
 
+/// Whether something is wanted of what the board turned is worth.
+fn asks_turned(wanted: &Wanted) -> bool
+    ensures asks { result ≡ asks_turned wanted.now }
+    ensures none { result ≡ false → (moves : ℕ) (value other : ℤ) → turns wanted.now moves value other ≡ true }
+{
+    wanted.waits || wanted.spans.other.is_some()
+}
+
 /// Whether the rules say of the board of a rank what is wanted. Condition: the level has that many boards.
 fn suits_rules(wanted: &Wanted, seen: &Seen) -> bool
     requires level { seen.now.level ≤ HIGHEST_LEVEL }
@@ -144,7 +150,7 @@ fn settled(wanted: &Wanted, seen: &Seen) -> Option<bool>
     ensures some { (images : List Image) (board : List ℕ) → IsAt images seen.now.level seen.now.rank board seen.now.entry → IfSome result (λ b. b ≡ is_within wanted.now images board) }
     ensures none { (images : List Image) (board : List ℕ) → IsAt images seen.now.level seen.now.rank board seen.now.entry → IsNone result
         → is_weighed wanted.now images board ≡ is_within wanted.now images board }
-    ensures alone { wanted.now.waits ≡ false → asks_moves wanted.now.spans ≡ false → IsSome result }
+    ensures alone { asks_turned wanted.now ≡ false → asks_moves wanted.now.spans ≡ false → IsSome result }
 {
     if !fits(&wanted.spans, seen.entry) {
         return Some(false);
@@ -152,7 +158,7 @@ fn settled(wanted: &Wanted, seen: &Seen) -> Option<bool>
     if !suits_rules(wanted, seen) {
         return Some(false);
     }
-    if wanted.waits || asks_moves(&wanted.spans) {
+    if asks_turned(wanted) || asks_moves(&wanted.spans) {
         return None;
     }
     Some(true)
@@ -178,6 +184,17 @@ fn weighs_in(levels: Levels<'_>, spans: &Spans, board: &PackedBoard, value: i8) 
     weighs(spans, &gains_of(levels, board), value)
 }
 
+/// Whether the value of the board turned is as it is wanted, on a board with this many legal moves and of this
+/// value; and whether it is a burden to move, if that is wanted.
+fn turns(wanted: &Wanted, moves: u8, value: i8, other: i8) -> bool
+    ensures { result ≡ turns wanted.now moves value other }
+{
+    if !is_in(wanted.spans.other, i64::from(other)) {
+        return false;
+    }
+    !wanted.waits || is_zugzwang(moves, value, other)
+}
+
 /// Whether the levels say of other boards what is wanted of this one, of this value. Condition: its level is
 /// there.
 fn is_weighed(levels: Levels<'_>, wanted: &Wanted, board: &PackedBoard, value: i8) -> bool
@@ -187,10 +204,15 @@ fn is_weighed(levels: Levels<'_>, wanted: &Wanted, board: &PackedBoard, value: i
     if !weighs_in(levels, &wanted.spans, board, value) {
         return false;
     }
-    if !wanted.waits {
+    if !asks_turned(wanted) {
         return true;
     }
-    waits(value, value_on(levels, &board.turned()))
+    turns(
+        wanted,
+        legal_moves(board),
+        value,
+        other_value(levels, board),
+    )
 }
 
 /// Whether the board of a rank has all that is wanted of each. Condition: the level is there, and has that many
@@ -224,11 +246,18 @@ pub(crate) fn key_on(levels: Levels<'_>, wanted: &Wanted, seen: &Seen) -> Option
     }
 }
 
+/// Whether each line has a number that other boards say.
+fn adds_others(added: Added) -> bool
+    ensures { result ≡ adds_others added }
+{
+    added.keep || added.trap || added.other || added.waits
+}
+
 /// Whether an entry and the rules say of a board whether it is wanted, and all that is printed of it.
 pub(crate) fn is_alone(wanted: &Wanted) -> bool
     ensures { result ≡ true ↔ IsAlone wanted.now }
 {
-    if wanted.waits || wanted.with_keep || asks_moves(&wanted.spans) {
+    if asks_turned(wanted) || adds_others(wanted.added) || asks_moves(&wanted.spans) {
         return false;
     }
     match wanted.order {

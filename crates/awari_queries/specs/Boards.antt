@@ -5,7 +5,7 @@ use Rattle.awari_queries.specs.Spans.{AsksFor, AsksForNone}
 use Rattle.awari_queries.specs.declared.boards.BoardSpans.{BoardSpans}
 use Rattle.awari_queries.specs.declared.boards.Spans.{Spans}
 use Rattle.awari_queries.specs.declared.spans.NoSpan.{NoSpan}
-use Rattle.awari_queries.specs.declared.spans.NoSpan.TheVariants.{Value, Distance, Plan, Captures, Greedy, Side, Moves, Keep, Trap}
+use Rattle.awari_queries.specs.declared.spans.NoSpan.TheVariants.{Value, Distance, Plan, Captures, Greedy, Side, Moves, Keep, Trap, Other}
 use Rattle.awari_queries.specs.declared.spans.Span.{Span}
 
 -- these are the spans that the words name
@@ -19,6 +19,7 @@ pub record AreAskedFor (words : BoardSpans) (spans : Spans) : Type 0 where
   pub moves : AsksFor words.moves spans.moves
   pub keep : AsksFor words.keep spans.keep
   pub trap : AsksFor words.trap spans.trap
+  pub other : AsksFor words.other spans.other
 
 -- the word asks for a span, or there is none
 abbrev pub AsksForSome : Option (Bor (List ℕ)) → Type 0
@@ -44,3 +45,7 @@ HasNoSpan words Keep =
 HasNoSpan words Trap =
     AsksForSome words.value × AsksForSome words.distance × AsksForSome words.plan × AsksForSome words.captures
     × AsksForSome words.greedy × AsksForSome words.side × AsksForSome words.moves × AsksForSome words.keep × AsksForNone words.trap
+HasNoSpan words Other =
+    AsksForSome words.value × AsksForSome words.distance × AsksForSome words.plan × AsksForSome words.captures
+    × AsksForSome words.greedy × AsksForSome words.side × AsksForSome words.moves × AsksForSome words.keep × AsksForSome words.trap
+    × AsksForNone words.other

@@ -1,7 +1,7 @@
 -- Numbers that are known of each board: how they are named, one or two of them.
 use Rattle.std.specs.Prelude.{◌≡◌, ◌≢◌, ℕ, List, ◌++◌, ◌∷◌, codes}
 use Rattle.awari_queries.specs.declared.columns.Column.{Column}
-use Rattle.awari_queries.specs.declared.columns.Column.TheVariants.{Rank, Value, Distance, Plan, Captures, Greedy, Moves, Keep}
+use Rattle.awari_queries.specs.declared.columns.Column.TheVariants.{Rank, Value, Distance, Plan, Captures, Greedy, Moves, Keep, Trap, Other, Waits}
 use Rattle.awari_queries.specs.declared.columns.NoColumn.{NoColumn}
 use Rattle.awari_queries.specs.declared.columns.NoColumn.TheVariants.{Sort, By, Twice, Level}
 use Rattle.awari_queries.specs.declared.columns.Pair.{Pair}
@@ -16,6 +16,9 @@ name_of Captures = codes "captures"
 name_of Greedy = codes "greedy"
 name_of Moves = codes "moves"
 name_of Keep = codes "keep"
+name_of Trap = codes "trap"
+name_of Other = codes "other"
+name_of Waits = codes "waits"
 
 -- the text names the column, which is not the rank
 pub record IsCountedName (text : List ℕ) (column : Column) : Type 0 where
@@ -47,7 +50,7 @@ option_of Twice = codes "--by"
 option_of Level = codes "--by"
 
 abbrev pub sentence_of : NoColumn → List ℕ
-sentence_of Sort = codes "A column is rank, value, distance, plan, captures, greedy, moves or keep"
-sentence_of By = codes "Columns are two of value, distance, plan, captures, greedy, moves and keep, with a comma between"
+sentence_of Sort = codes "A column is rank, value, distance, plan, captures, greedy, moves, keep, trap, other or waits"
+sentence_of By = codes "Columns are two of value, distance, plan, captures, greedy, moves, keep, trap, other and waits, with a comma between"
 sentence_of Twice = codes "Both columns are the same"
 sentence_of Level = codes "LEVEL is missing"

@@ -4,7 +4,7 @@ use Rattle.std.specs.Int.{w64}
 use Rattle.std.specs.Borrow.{Bor}
 use Rattle.std.specs.Str.Parse.{IsNumeral, signed_digits_value, without_leading_sign}
 use Rattle.awari_queries.specs.declared.spans.NoSpan.{NoSpan}
-use Rattle.awari_queries.specs.declared.spans.NoSpan.TheVariants.{Value, Distance, Plan, Captures, Greedy, Side, Moves, Keep, Trap}
+use Rattle.awari_queries.specs.declared.spans.NoSpan.TheVariants.{Value, Distance, Plan, Captures, Greedy, Side, Moves, Keep, Trap, Other}
 use Rattle.awari_queries.specs.declared.spans.Span.{Span}
 
 -- the text is a decimal number of at most 64 bits, with a sign or not
@@ -64,6 +64,7 @@ option_of Side = codes "--side"
 option_of Moves = codes "--moves"
 option_of Keep = codes "--keep"
 option_of Trap = codes "--trap"
+option_of Other = codes "--other"
 
 -- the number is in the span, if there is one
 abbrev pub is_in : Option Span → ℤ → Bool

@@ -12,7 +12,8 @@ pub struct BoardsQuery<'a> {
     pub level: u8,
     /// Spans that a board has to be in.
     pub spans: BoardSpans<'a>,
-    /// Those for whom it is a burden to move: their value is less than if the opponent had to.
+    /// Those for whom it is a burden to move: a move is legal, and their value is less than if the opponent had to
+    /// move.
     pub waits: bool,
     /// Those where the play has ended.
     pub ended: bool,
@@ -30,10 +31,8 @@ pub struct BoardsQuery<'a> {
     pub sort: Option<&'a str>,
     /// This many of the first ones, by rank or as they are sorted; 0 is all.
     pub most: u32,
-    /// Whether each line has the number of legal moves.
-    pub with_moves: bool,
-    /// Whether each line has the number of those that keep the value.
-    pub with_keep: bool,
+    /// Which further numbers each line has.
+    pub added: Added,
     /// How many there are, and not the boards.
     pub count: bool,
     /// Lines of JSON.
@@ -42,6 +41,23 @@ pub struct BoardsQuery<'a> {
     pub csv: bool,
     /// Whether files answer that nobody verified.
     pub unverified: bool,
+}
+
+/// Which further numbers a board's line has, behind its entry.
+#[derive(Clone, Copy, Debug, Default, PartialEq, Eq)]
+pub struct Added {
+    /// The number of legal moves.
+    pub moves: bool,
+    /// The number of those that keep the value.
+    pub keep: bool,
+    /// The stones of the largest capture.
+    pub greedy: bool,
+    /// The stones that are thrown away by it.
+    pub trap: bool,
+    /// The value to the opponent, if the opponent were to move.
+    pub other: bool,
+    /// The stones that the mover loses by having to move.
+    pub waits: bool,
 }
 
 /// Spans, in words, of numbers that are known of each board.
@@ -65,6 +81,8 @@ pub struct BoardSpans<'a> {
     pub keep: Option<&'a str>,
     /// Stones that are thrown away by whoever captures the most.
     pub trap: Option<&'a str>,
+    /// Values to the opponent, if the opponent were to move.
+    pub other: Option<&'a str>,
 }
 
 /// Spans of numbers that are known of each board.
@@ -88,6 +106,8 @@ pub struct Spans {
     pub keep: Option<Span>,
     /// Stones that are thrown away by whoever captures the most.
     pub trap: Option<Span>,
+    /// Values to the opponent, if the opponent were to move.
+    pub other: Option<Span>,
 }
 
 /// The spans that the words name. They are refused as 95, for the first option whose word is no span.
@@ -105,5 +125,6 @@ pub fn asked_spans(words: &BoardSpans<'_>) -> Result<Spans, NoSpan>
         moves: asked_span(words.moves, NoSpan::Moves)?,
         keep: asked_span(words.keep, NoSpan::Keep)?,
         trap: asked_span(words.trap, NoSpan::Trap)?,
+        other: asked_span(words.other, NoSpan::Other)?,
     })
 }

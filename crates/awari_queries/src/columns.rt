@@ -22,6 +22,12 @@ pub enum Column {
     Moves,
     /// How many of these gain what the board is worth.
     Keep,
+    /// The stones that are thrown away by whoever captures the most; 0 if no move captures.
+    Trap,
+    /// What it would be worth to the opponent, if the opponent were to move.
+    Other,
+    /// The stones that the mover loses by having to move; 0 if the board is not zugzwang.
+    Waits,
 }
 
 impl Column {
@@ -38,6 +44,9 @@ impl Column {
             Column::Greedy => "greedy",
             Column::Moves => "moves",
             Column::Keep => "keep",
+            Column::Trap => "trap",
+            Column::Other => "other",
+            Column::Waits => "waits",
         }
     }
 }
@@ -72,10 +81,10 @@ impl NoColumn {
     {
         match self {
             NoColumn::Sort => {
-                "A column is rank, value, distance, plan, captures, greedy, moves or keep"
+                "A column is rank, value, distance, plan, captures, greedy, moves, keep, trap, other or waits"
             }
             NoColumn::By => {
-                "Columns are two of value, distance, plan, captures, greedy, moves and keep, with a comma between"
+                "Columns are two of value, distance, plan, captures, greedy, moves, keep, trap, other and waits, with a comma between"
             }
             NoColumn::Twice => "Both columns are the same",
             NoColumn::Level => "LEVEL is missing",
@@ -97,6 +106,9 @@ pub(crate) fn column_of(text: &str) -> Option<Column>
         "greedy" => Some(Column::Greedy),
         "moves" => Some(Column::Moves),
         "keep" => Some(Column::Keep),
+        "trap" => Some(Column::Trap),
+        "other" => Some(Column::Other),
+        "waits" => Some(Column::Waits),
         _ => None,
     }
 }

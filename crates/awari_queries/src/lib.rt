@@ -22,7 +22,7 @@ mod orders;
 mod questions;
 mod spans;
 
-pub use boards::{BoardSpans, BoardsQuery, Spans, asked_spans};
+pub use boards::{Added, BoardSpans, BoardsQuery, Spans, asked_spans};
 pub use columns::{Column, NoColumn, Pair, asked_pair};
 pub use draws::{Draw, draw_of, is_taken, samples_are_as_large_as_wanted};
 pub use holding::{Held, Holding};

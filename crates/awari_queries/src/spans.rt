@@ -53,6 +53,8 @@ pub enum NoSpan {
     Keep,
     /// `--trap`.
     Trap,
+    /// `--other`.
+    Other,
 }
 
 impl NoSpan {
@@ -70,6 +72,7 @@ impl NoSpan {
             NoSpan::Moves => "--moves",
             NoSpan::Keep => "--keep",
             NoSpan::Trap => "--trap",
+            NoSpan::Other => "--other",
         }
     }
 }

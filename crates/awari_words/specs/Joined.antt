@@ -7,6 +7,7 @@ use Rattle.std.specs.Str.{bytes_eq}
 abbrev pub takes_span : List ℕ → Bool
 takes_span word = bytes_eq word (codes "--value") || bytes_eq word (codes "--distance") || bytes_eq word (codes "--plan") || bytes_eq word (codes "--captures")
     || bytes_eq word (codes "--greedy") || bytes_eq word (codes "--side") || bytes_eq word (codes "--moves") || bytes_eq word (codes "--keep") || bytes_eq word (codes "--trap")
+    || bytes_eq word (codes "--other")
 
 -- the text begins with a hyphen (45) and a digit (48 to 57)
 abbrev pub is_below_zero : List ℕ → Bool

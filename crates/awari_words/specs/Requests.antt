@@ -62,6 +62,7 @@ pub record IsBoardsQueryOf (given : List Row) (query : BoardsQuery) : Type 0 whe
   pub moves : option_map (λ t. t.now) query.spans.moves ≡ first_of (codes "moves") given
   pub keep : option_map (λ t. t.now) query.spans.keep ≡ first_of (codes "keep") given
   pub trap : option_map (λ t. t.now) query.spans.trap ≡ first_of (codes "trap") given
+  pub other : option_map (λ t. t.now) query.spans.other ≡ first_of (codes "other") given
   pub waits : IsFlagOf given (codes "waits") query.waits
   pub ended : IsFlagOf given (codes "ended") query.ended
   pub running : IsFlagOf given (codes "open") query.running
@@ -71,8 +72,12 @@ pub record IsBoardsQueryOf (given : List Row) (query : BoardsQuery) : Type 0 whe
   pub seed : Spells given (codes "seed") query.seed
   pub sort : option_map (λ t. t.now) query.sort ≡ first_of (codes "sort") given
   pub most : Spells given (codes "most") query.most
-  pub with_moves : IsFlagOf given (codes "with-moves") query.with_moves
-  pub with_keep : IsFlagOf given (codes "with-keep") query.with_keep
+  pub with_moves : IsFlagOf given (codes "with-moves") query.added.moves
+  pub with_keep : IsFlagOf given (codes "with-keep") query.added.keep
+  pub with_greedy : IsFlagOf given (codes "with-greedy") query.added.greedy
+  pub with_trap : IsFlagOf given (codes "with-trap") query.added.trap
+  pub with_other : IsFlagOf given (codes "with-other") query.added.other
+  pub with_waits : IsFlagOf given (codes "with-waits") query.added.waits
   pub count : IsFlagOf given (codes "count") query.count
   pub json : IsFlagOf given (codes "json") query.json
   pub csv : IsFlagOf given (codes "csv") query.csv

@@ -187,17 +187,16 @@ prints this level's line, and then how many boards have each value and distance:
     value V boards N                or `distance D boards N`
     value 3 distance 5 boards 12    pairs, with LEVEL and --by value,distance
 
---by takes two of value, distance, plan (- if none), captures, greedy, moves and
-keep, else `refused 96 Column`. --csv prints the tables of docs/FORMATS.md.";
+--by takes two of value, distance, plan (- if none), captures, greedy, moves,
+keep, trap, other and waits, else `refused 96 Column`. --csv prints the tables
+of docs/FORMATS.md.";
 
 pub const BOARDS_HELP: &str = "\
 It prints a line for each board that matches all options, by rank:
 
     BOARD V P D    the board, its value, a pit to play or -, and its distance
 
-With --with-moves and --with-keep a line ends in these numbers. COLUMN is rank,
-value, distance, plan, captures, greedy, moves or keep, behind a - with the
-greatest first, else `refused 96 Column`. --most N prints the first N of them.
-
-A.. and ..B have one end; A is one number. The levels are verified first. The
-status is 0, or 1 for a refusal, as `refused 95 Span`: see docs/FORMATS.md.";
+COLUMN is rank, waits, or an option of A..B but side; a - before it puts the
+greatest first. Another is `refused 96 Column`. A.. and ..B have one end; A is
+one number. The levels are verified first. The status is 0, or 1 for a refusal,
+as `refused 95 Span`: see docs/FORMATS.md.";

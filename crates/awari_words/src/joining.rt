@@ -94,6 +94,7 @@ fn takes_span(option: &str) -> bool
         || option == "--moves"
         || option == "--keep"
         || option == "--trap"
+        || option == "--other"
 }
 
 /// Whether the text begins with a hyphen and a digit.

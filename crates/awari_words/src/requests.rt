@@ -26,8 +26,8 @@ ghost use Rattle.awari_words.specs.Requests.{
 use crate::making::commands;
 use awari_pace::Pace;
 use awari_queries::{
-    AskQuery, BoardSpans, BoardsQuery, CountsQuery, LineQuery, MovesQuery, ServeQuery, TextQuery,
-    VerifyQuery,
+    Added, AskQuery, BoardSpans, BoardsQuery, CountsQuery, LineQuery, MovesQuery, ServeQuery,
+    TextQuery, VerifyQuery,
 };
 use clap::{ArgMatches, Error};
 use std::alloc::Global;
@@ -117,9 +117,10 @@ pub enum Question<'a> {
     /// or one.
     Counts(CountsQuery<'a>),
     /// `boards FOLDER LEVEL [--value A..B] [--distance A..B] [--plan A..B] [--captures A..B]
-    /// [--greedy A..B] [--side A..B] [--moves A..B] [--keep A..B] [--trap A..B] [--waits] [--ended] [--open]
+    /// [--greedy A..B] [--side A..B] [--moves A..B] [--keep A..B] [--trap A..B] [--other A..B] [--waits] [--ended] [--open]
     /// [--farthest] [--every K] [--random N] [--seed N] [--sort [-]COLUMN] [--most N] [--with-moves]
-    /// [--with-keep] [--count] [--csv] [--json] [--unverified]`: the boards of a level.
+    /// [--with-keep] [--with-greedy] [--with-trap] [--with-other] [--with-waits] [--count] [--csv] [--json]
+    /// [--unverified]`: the boards of a level.
     Boards(BoardsQuery<'a>),
 }
 
@@ -391,6 +392,7 @@ fn boards_query_of<'a>(given: &ArgMatches<'a>) -> Option<BoardsQuery<'a>>
             moves: text(given, "moves"),
             keep: text(given, "keep"),
             trap: text(given, "trap"),
+            other: text(given, "other"),
         },
         waits: flag(given, "waits"),
         ended: flag(given, "ended"),
@@ -401,8 +403,14 @@ fn boards_query_of<'a>(given: &ArgMatches<'a>) -> Option<BoardsQuery<'a>>
         seed: number(given, "seed")?,
         sort: text(given, "sort"),
         most: number(given, "most")?,
-        with_moves: flag(given, "with-moves"),
-        with_keep: flag(given, "with-keep"),
+        added: Added {
+            moves: flag(given, "with-moves"),
+            keep: flag(given, "with-keep"),
+            greedy: flag(given, "with-greedy"),
+            trap: flag(given, "with-trap"),
+            other: flag(given, "with-other"),
+            waits: flag(given, "with-waits"),
+        },
         count: flag(given, "count"),
         json: flag(given, "json"),
         csv: flag(given, "csv"),
