@@ -59,7 +59,7 @@ fn counts_after(
 
 /// How many plays of this many plies there are from the board that `text` spells. A text that is not a
 /// board is refused as [`Board::parse`] refuses it, 2^64 plays or more as 94, and want of memory as 84. It takes
-/// memory for each board that plays reach before their last two plies.
+/// memory for each board that plays reach before their last two plies, and with each ply some five times as long.
 pub fn plays_from(alloc: Global, text: &[u8], plies: u8) -> Result<PlayCounts, NoAnswer>
     ensures counted { IfOk result (IsCounted text.now plies) }
     ensures fault { IfErr result (IsNotCounted text.now plies) }

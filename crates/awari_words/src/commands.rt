@@ -196,12 +196,12 @@ pub(crate) const COMMANDS: [CommandRow<Text, Words>; 16] = [
             Word(
                 "levels",
                 Valued("TOP", LEVELS),
-                "Want just levels 0 to TOP: none missing, and none above",
+                "Require just levels 0 to TOP, none missing and none above",
             ),
             Word(
                 "digest",
                 Valued("HEX", AnyText),
-                "Want this digest of the last file, of 64 digits",
+                "Require this digest of the last file, of 64 digits",
             ),
             PROGRESS,
         ],

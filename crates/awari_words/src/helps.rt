@@ -30,8 +30,8 @@ It prints one line:
                                  and this is the first rule that it breaks
     refused N Name ..            the input is no such text
 
-The status is 0 for a yes, and 1 otherwise. docs/FORMATS.md has the form, the
-rules and all refusals.";
+The status is 0 for a yes, and 1 otherwise. docs/FORMATS.md has the form and
+the rules, and `man awari` all refusals.";
 
 pub const MOVE_HELP: &str = "\
 BOARD is the stones in the mover's pits 0 to 5 and, after a slash, in the
@@ -41,7 +41,7 @@ opponent's pits 6 to 11. It prints one line:
                       and the stones captured
     refused N Name    BOARD is no board, or PIT may not be played
 
-The status is 0 for a move, and 1 for a refusal. docs/FORMATS.md lists them.";
+The status is 0 for a move, and 1 for a refusal. `man awari` lists them.";
 
 pub const JUDGE_HELP: &str = "\
 The moves are played from the board: a digit each, in any number of words, so
@@ -54,7 +54,7 @@ is refused as 4 NoPit. It prints four lines, or a refusal alone:
     outcome X      what the play has come to for the first mover, or `none`
 
 LIMIT is at most 4294967295. The status is 0, or 1 for a refusal, as `refused 5
-EmptyPit at 2` of the second move. docs/FORMATS.md lists them, and docs/RULES.md
+EmptyPit at 2` of the second move. `man awari` lists them, and docs/RULES.md
 says when a play has an outcome.";
 
 pub const BUILD_HELP: &str = "\
@@ -75,7 +75,7 @@ It prints a line for each level, and one for them all; or a refusal alone:
 The status is 0, or 1 for a refusal. A folder that is not there is an empty one,
 so a script says what it wants: `awari verify FOLDER --levels TOP --digest HEX`.
 If the folder has something else, the status is 1, and the error stream says so.
-docs/FORMATS.md lists the refusals, and has the form of the files.";
+`man awari` lists the refusals, and docs/FORMATS.md has the form of the files.";
 
 pub const TEXT_HELP: &str = "\
 It prints the levels of the folder as text, in order; with LEVEL that one alone:
@@ -86,7 +86,7 @@ It prints the levels of the folder as text, in order; with LEVEL that one alone:
 
 The levels are verified first, so `awari text FOLDER | awari check` says yes. It
 does not with --boards. The status is 0, or 1 for a refusal, as `refused 59
-NotYet levels M` if the folder has only levels 0 to M - 1. docs/FORMATS.md lists
+NotYet levels M` if the folder has only levels 0 to M - 1. `man awari` lists
 them.";
 
 pub const MIGRATE_HELP: &str = "\
@@ -99,7 +99,7 @@ plans the lowest pits that serve; one of version 2 stays as it is. It prints:
                                 last one's new file ends in, zeros for none
 
 or a refusal alone; the files that were written before it stand. A FROM that is
-not there is an empty one. The status is 0, or 1 for a refusal. docs/FORMATS.md
+not there is an empty one. The status is 0, or 1 for a refusal. `man awari`
 lists them.";
 
 pub const ASK_HELP: &str = "\
@@ -110,7 +110,7 @@ members board, value, plan and distance; a refusal has request, refused and
 name.
 
 The status is 0, or 1 for a refusal, as `refused 59 NotYet levels M` if the
-folder has only levels 0 to M - 1. docs/FORMATS.md lists them.";
+folder has only levels 0 to M - 1. `man awari` lists them.";
 
 pub const MOVES_HELP: &str = "\
 It prints a line for each pit that the mover may play, the lowest first:
@@ -122,7 +122,7 @@ capture or the end comes within D plies, if the side that is ahead follows
 the plans. The plan's line ends in ` plan`. If the play has ended, it prints
 `ended G`, what the mover gains by that. With --replies ` replies R keep K`
 follows D: of R legal moves of the board left, K gain what it is worth. The
-status is 0, or 1 for a refusal. docs/FORMATS.md lists them.";
+status is 0, or 1 for a refusal. `man awari` lists them.";
 
 pub const LINE_HELP: &str = "\
 It prints `value V`, `moves P P ..`, `outcome X`, and X is V: both play their
@@ -154,7 +154,7 @@ L stones. These are numbered from 0 on, in lexicographic order of their pits 0
 to 11. `awari board L R` gives the board back.
 
 The status is 0, or 1 for a refusal, as `refused 59 NotYet levels 25` if the
-board has more than 24 stones. docs/FORMATS.md lists them.";
+board has more than 24 stones. `man awari` lists them.";
 
 pub const BOARD_HELP: &str = "\
 It prints the board: the one of LEVEL stones with this number. The boards of as
@@ -162,7 +162,7 @@ many stones are numbered from 0 on, in lexicographic order of their pits.
 
 The status is 0, or 1 for a refusal. There is no level above 24, as `refused 59
 NotYet levels 25` says; `refused 93 NoRank boards N` says that the level has
-only the numbers 0 to N - 1. docs/FORMATS.md lists all refusals.";
+only the numbers 0 to N - 1. `man awari` lists all refusals.";
 
 pub const PLAYS_HELP: &str = "\
 It prints one line, of all plays that have PLIES plies, each ply a legal move:
@@ -177,7 +177,7 @@ which programs can compare their rules.
 
 Each ply takes some five times as long, and four times the memory. The status is
 0, or 1 for a refusal, as `refused 94 Overflow` if N is 2^64 or more.
-docs/FORMATS.md lists them.";
+`man awari` lists them.";
 
 pub const COUNTS_HELP: &str = "\
 It prints a line for each level, the lowest first, as build does. With LEVEL it
@@ -199,4 +199,4 @@ It prints a line for each board that matches all options, by rank:
 COLUMN is rank, waits, or an option of A..B but side; a - before it puts the
 greatest first. Another is `refused 96 Column`. A.. and ..B have one end; A is
 one number. The levels are verified first. The status is 0, or 1 for a refusal,
-as `refused 95 Span`: see docs/FORMATS.md.";
+as `refused 95 Span`: see `man awari`.";
