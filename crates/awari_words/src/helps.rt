@@ -187,9 +187,8 @@ prints this level's line, and then how many boards have each value and distance:
     value V boards N                or `distance D boards N`
     value 3 distance 5 boards 12    pairs, with LEVEL and --by value,distance
 
---by takes two of value, distance, plan (- if none), captures, greedy, moves,
-keep, trap, other and waits, else `refused 96 Column`. --csv prints the tables
-of docs/FORMATS.md.";
+--by takes two unlike columns of `boards --sort` but rank, else `refused 96
+Column`; - is none. --csv prints the tables of docs/FORMATS.md.";
 
 pub const BOARDS_HELP: &str = "\
 It prints a line for each board that matches all options, by rank:
