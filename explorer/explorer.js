@@ -470,15 +470,315 @@ if (globalThis.process?.argv?.[1]?.endsWith("awari.mjs"))
 return { Refused, Levels };
 })();
 
+const module_rules = (() => {
+// The game by docs/RULES.md. Nothing here knows of files or of the page.
+//
+// The proved code answers from a thread of its own, and what a pointer passes over is drawn at once: where the
+// stones of a pit fall, and whether it can be played. So the rules are here too, and tested beside the program.
+
+/**
+ * @typedef {number[]} Board the stones of twelve pits, as the mover sees them: pits 0 to 5 are the mover's own,
+ * and pits 6 to 11 are the opponent's
+ *
+ * @typedef {object} Move
+ * @property {number} pit
+ * @property {number[]} falls the pits into which its stones fall, one by one
+ * @property {number[]} taken the pits that are captured
+ * @property {boolean} isSlam whether it would take all that the opponent has, and so takes nothing
+ * @property {number} captured how many stones it captures
+ * @property {Board} next the board that it leaves, as the other player sees it
+ */
+
+/** What is refused, by the number and the name that the program has for it (docs/FORMATS.md). */
+class Fault extends Error {
+  constructor(number, name, text) {
+    super(`${text} (${number} ${name})`);
+    this.number = number;
+    this.fault = name;
+    /** Whether the same may succeed later. */
+    this.isPassing = false;
+  }
+}
+
+const MOST_STONES = 48;
+const OWN_PITS = [0, 1, 2, 3, 4, 5];
+
+// ---- boards ----
+
+/** @param {Board} board */
+const stonesOf = board => board.reduce((sum, stones) => sum + stones, 0);
+
+/**
+ * The board as the other player sees it.
+ * @param {Board} board
+ * @returns {Board}
+ */
+const turned = board => [...board.slice(6), ...board.slice(0, 6)];
+
+const print = board => `${board.slice(0, 6)}/${board.slice(6)}`;
+
+const areSame = (board, other) => print(board) === print(other);
+
+/**
+ * The board that a word spells.
+ * @param {string} text
+ * @returns {Board}
+ */
+function parse(text) {
+  const sides = text.split("/").map(side => side.split(","));
+  if (sides.length !== 2 || sides.some(side => side.length !== 6))
+    throw new Fault(1, "Shape", "A board is six numbers, a slash and six numbers, parted by commas");
+  const wrong = sides.flat().find(field => !/^(0|[1-9][0-9]?)$/.test(field));
+  if (wrong !== undefined)
+    throw new Fault(2, "Number", `“${wrong}” is no number from 0 to 99 in its shortest form`);
+  const board = sides.flat().map(Number);
+  if (stonesOf(board) > MOST_STONES)
+    throw new Fault(3, "TooMany", `These are ${stonesOf(board)} stones, and a board has at most ${MOST_STONES}`);
+  return board;
+}
+
+// ---- moves ----
+
+/** Where the stones of a pit fall, one by one. The origin is left out on each lap. */
+const landings = (board, origin) =>
+  Array.from({ length: board[origin] }, (_, stone) => (origin + 1 + stone % 11) % 12);
+
+const opponentHasStones = board => board.slice(6).some(stones => stones > 0);
+
+const feeds = (board, pit) => opponentHasStones(board) || landings(board, pit).some(fall => fall >= 6);
+
+const isLegal = (board, pit) => OWN_PITS.includes(pit) && board[pit] > 0 && feeds(board, pit);
+
+const legalPits = board => OWN_PITS.filter(pit => isLegal(board, pit));
+
+const isEnded = board => legalPits(board).length === 0;
+
+/** What the mover gains if play has ended: each player takes the stones on their own side. */
+const endGain = board => stonesOf(board.slice(0, 6)) === 0 ? -stonesOf(board) : stonesOf(board);
+
+/**
+ * Why a pit can't be played, or null.
+ * @param {Board} board
+ * @param {number} pit
+ */
+function refusalOf(board, pit) {
+  if (!OWN_PITS.includes(pit)) return new Fault(4, "NoPit", `The mover has no pit ${pit}`);
+  if (isEnded(board)) return new Fault(7, "Ended", "The play has ended");
+  if (board[pit] === 0) return new Fault(5, "EmptyPit", `Pit ${pit} is empty`);
+  if (!feeds(board, pit))
+    return new Fault(6, "MustFeed", `The opponent has no stones, and pit ${pit} would give none while another does`);
+  return null;
+}
+
+/** The opponent's pits that a capture would take, from the last stone back. */
+function capturedPits(sown, lastFall) {
+  const taken = [];
+  for (let pit = lastFall; pit >= 6 && (sown[pit] === 2 || sown[pit] === 3); pit--) taken.push(pit);
+  return taken;
+}
+
+/**
+ * The move from a pit. It throws its refusal.
+ * @param {Board} board
+ * @param {number} pit
+ * @returns {Move}
+ */
+function play(board, pit) {
+  const refused = refusalOf(board, pit);
+  if (refused) throw refused;
+  const falls = landings(board, pit), sown = [...board];
+  sown[pit] = 0;
+  for (const fall of falls) sown[fall] += 1;
+  const reached = capturedPits(sown, falls.at(-1));
+  const stones = reached.reduce((sum, each) => sum + sown[each], 0);
+  // A grand slam would take all that the opponent has, and takes nothing.
+  const isSlam = stones > 0 && stones === stonesOf(sown.slice(6));
+  const taken = isSlam ? [] : reached;
+  for (const each of taken) sown[each] = 0;
+  return { pit, falls, taken, isSlam, captured: isSlam ? 0 : stones, next: turned(sown) };
+}
+
+/** How many boards have so many stones: in how many ways they lie in twelve pits. */
+function sizeOf(stones) {
+  let ways = 1;
+  for (let bars = 1; bars <= 11; bars++) ways = ways * (stones + bars) / bars;
+  return ways;
+}
+
+/**
+ * Any board of so many stones, each as likely: eleven bars among the stones part the pits.
+ * @returns {Board}
+ */
+function randomBoard(stones) {
+  const bars = new Set();
+  while (bars.size < 11) bars.add(Math.floor(Math.random() * (stones + 11)));
+  const ends = [-1, ...[...bars].sort((one, other) => one - other), stones + 11];
+  return Array.from({ length: 12 }, (_, pit) => ends[pit + 1] - ends[pit] - 1);
+}
+return { Fault, MOST_STONES, stonesOf, turned, print, areSame, parse, isLegal, legalPits, isEnded, endGain, refusalOf, play, sizeOf, randomBoard };
+})();
+
+const module_puzzle = (() => {
+// Puzzles: boards with one move that keeps the gain, and it is not the greedy one. Nothing here knows of the page.
+//
+// A link names a puzzle by `puzzle=SEED,LEVEL,HARDNESS`, and a sheet of ten by `sheet=..`. The first digit of the
+// hardness is how far the gain is, and the second how much the second best move throws away at least.
+
+const { endGain, isEnded, legalPits, play } = module_rules;
+
+/**
+ * @typedef {import("./rules.mjs").Board} Board
+ * @typedef {import("./level_file.mjs").Entry} Entry
+ *
+ * @typedef {object} Asked what a link names
+ * @property {number} seed
+ * @property {number} level the stones
+ * @property {number} hardness two digits
+ *
+ * @typedef {{ pit: number, captured: number, value: number }} Choice a legal move and what it gains
+ */
+
+/** From which to which distance a digit leads. */
+const PLIES = { 1: [1, 5], 2: [6, 15], 3: [16, 30], 4: [31, Infinity] };
+/** Up to this level each board that is a puzzle is found, and then some are drawn, as `awari boards` does. */
+const HIGHEST_GONE_OVER = 10;
+const LEAST_LEVEL = 3;
+const BOARDS_OF_A_SHEET = 10;
+const HIGHEST_SEED = 4294967295;
+const HIGHEST_LEVEL = 24;
+
+// ---- links ----
+
+/** @param {Asked} asked */
+const printAsked = ({ seed, level, hardness }, kind = "puzzle") => `${kind}=${seed},${level},${hardness}`;
+
+/**
+ * What a link names, and whether that is a `puzzle` or a `sheet`; null if it names none of them.
+ * @returns {{ kind: string, asked: Asked } | null}
+ */
+function parseAsked(text) {
+  const [, kind, words] = /^(puzzle|sheet)=(.*)$/.exec(text.replaceAll(/%2c/gi, ",")) ?? [];
+  if (!kind) return null;
+  const numbers = words.split(",");
+  if (numbers.length !== 3 || !numbers.every(word => /^(0|[1-9]\d{0,9})$/.test(word)))
+    throw new Error(`A ${kind} is named by three numbers: ${kind}=SEED,LEVEL,HARDNESS`);
+  const [seed, level, hardness] = numbers.map(Number);
+  if (seed > HIGHEST_SEED) throw new Error(`A seed is at most ${HIGHEST_SEED}`);
+  if (level < LEAST_LEVEL || level > HIGHEST_LEVEL)
+    throw new Error(`A puzzle has ${LEAST_LEVEL} to ${HIGHEST_LEVEL} stones, and not ${level}`);
+  if (!/^[1-4][1-9]$/.test(numbers[2])) throw new Error(`The hardness is 11 to 49, and not ${numbers[2]}`);
+  return { kind, asked: { seed, level, hardness } };
+}
+
+/** @param {number} hardness */
+const pliesOf = hardness => PLIES[Math.floor(hardness / 10)];
+/** @param {number} hardness */
+const marginOf = hardness => hardness % 10;
+
+/** The words by which `awari boards` draws them, or null if it has none. */
+function wordsOf({ seed, level, hardness }, count) {
+  if (level > HIGHEST_GONE_OVER || marginOf(hardness) > 1) return null;
+  const [least, most] = pliesOf(hardness), distance = `${least}..${most === Infinity ? "" : most}`;
+  const which = `--value 1.. --distance ${distance} --keep 1 --trap 1..`;
+  return `awari boards FOLDER ${level} ${which} --random ${count} --seed ${seed}`;
+}
+
+// ---- which boards are puzzles ----
+
+/**
+ * Whether a board has a gain that is so far.
+ * @param {Entry} entry
+ */
+function isFar({ value, distance }, hardness) {
+  const [least, most] = pliesOf(hardness);
+  return value > 0 && distance >= least && distance <= most;
+}
+
+/** The move that captures most, and among equals the one that gains most. */
+const greedyOf = moves => moves.reduce((best, move) =>
+  move.captured > best.captured || (move.captured === best.captured && move.value > best.value) ? move : best);
+
+/**
+ * Whether one move keeps the value, the others throw away enough, and the greedy one is among those.
+ * @param {number} value
+ * @param {Choice[]} moves
+ */
+function isTrap(value, moves, hardness) {
+  if (moves.filter(move => move.value > value - marginOf(hardness)).length !== 1) return false;
+  const greedy = greedyOf(moves);
+  return greedy.captured > 0 && greedy.value < value;
+}
+
+/** Whether a board may be a puzzle, as far as the rules tell. */
+function mayBePuzzle(board) {
+  const pits = legalPits(board);
+  return pits.length > 1 && pits.some(pit => play(board, pit).captured > 0);
+}
+
+// ---- drawing ----
+
+/** The number after this one, as in `awari boards --random`. */
+const nextNumber = number => BigInt.asUintN(64, number * 6364136223846793005n + 1442695040888963407n);
+
+/**
+ * So many of these, in their order, as `awari boards --random` draws them.
+ * @template T
+ * @param {ArrayLike<T>} all
+ * @returns {T[]}
+ */
+function drawn(all, wanted, seed) {
+  let number = BigInt(seed), left = all.length;
+  return Array.from(all).filter(() => {
+    number = nextNumber(number);
+    const isDrawn = (number >> 32n) % BigInt(left) < BigInt(wanted);
+    left -= 1;
+    wanted -= Number(isDrawn);
+    return isDrawn;
+  });
+}
+
+/** The ranks that a seed leads to, one after the other: for levels that are too large to be gone over. */
+function* ranksOf(seed, boards) {
+  for (let number = nextNumber(BigInt(seed)); ; number = nextNumber(number)) yield Number((number >> 32n) % BigInt(boards));
+}
+
+// ---- what came of one ----
+
+/**
+ * What South, who began, has gained.
+ * @param {import("./game.mjs").State} state
+ */
+function gainOf({ board, mover, captured }) {
+  const left = isEnded(board) ? endGain(board) : 0;
+  return captured[0] - captured[1] + (mover === 0 ? left : -left);
+}
+
+/**
+ * What the moves of a board throw away: how much each, which keep the value, and the least beside those.
+ * @param {number} value
+ * @param {Choice[]} moves
+ */
+function costsOf(value, moves) {
+  const thrown = new Map(moves.map(move => [move.pit, value - move.value]));
+  const right = moves.filter(move => move.value === value).map(({ pit }) => pit);
+  const second = Math.min(...[...thrown.values()].filter(cost => cost > 0));
+  return { thrown, right, second, greedy: greedyOf(moves).pit };
+}
+return { PLIES, HIGHEST_GONE_OVER, LEAST_LEVEL, BOARDS_OF_A_SHEET, printAsked, parseAsked, pliesOf, marginOf, wordsOf, isFar, isTrap, mayBePuzzle, drawn, ranksOf, gainOf, costsOf };
+})();
+
 const module_desk = (() => {
 // What is asked of the proved code, in its thread. Nothing here knows of threads or of the page.
 
 const { Levels } = module_awari;
+const { isFar, isTrap } = module_puzzle;
 
 /** @typedef {import("../../bindings/awari.mjs").Board} Board */
 
 /** The thread works so long before it gives way. */
 const MILLISECONDS_OF_WORK = 40;
+/** So many boards are gone over before it gives way. */
+const BOARDS_OF_A_SLICE = 8192;
 
 const bytesOfText = text => Uint8Array.from(atob(text), character => character.charCodeAt(0));
 
@@ -524,6 +824,35 @@ class Desk {
   }
 
   stop() { this.#isStopped = true; }
+
+  /**
+   * Goes over a level, and gives way now and then: the ranks of its boards that are puzzles of this hardness.
+   * @param {number} level
+   * @param {number} hardness
+   * @param {(boards: number) => void} told hears how many boards are done
+   */
+  async puzzles(level, hardness, told) {
+    const ranks = [], boards = this.#levels.size(level);
+    for (let rank = 0; rank < boards; rank += BOARDS_OF_A_SLICE) {
+      ranks.push(...this.#puzzlesIn(level, rank, Math.min(boards, rank + BOARDS_OF_A_SLICE), hardness));
+      told(rank);
+      await new Promise(next => setTimeout(next));
+    }
+    return ranks;
+  }
+
+  #puzzlesIn(level, from, to, hardness) {
+    const ranks = [];
+    for (let rank = from; rank < to; rank++) if (this.#isPuzzle(this.#levels.board(level, rank), hardness)) ranks.push(rank);
+    return ranks;
+  }
+
+  #isPuzzle(board, hardness) {
+    const entry = this.#levels.entry(board);
+    if (!isFar(entry, hardness)) return false;
+    const moves = this.#levels.moves(board).map(({ pit, captures, value }) => ({ pit, captured: captures, value }));
+    return isTrap(entry.value, moves, hardness);
+  }
 
   /**
    * Verifies a file, and puts its level on.
@@ -731,12 +1060,928 @@ async function filesOfEntry(entry) {
 return { filesOfInput, filesOfDrop };
 })();
 
+const module_rules = (() => {
+// The game by docs/RULES.md. Nothing here knows of files or of the page.
+//
+// The proved code answers from a thread of its own, and what a pointer passes over is drawn at once: where the
+// stones of a pit fall, and whether it can be played. So the rules are here too, and tested beside the program.
+
+/**
+ * @typedef {number[]} Board the stones of twelve pits, as the mover sees them: pits 0 to 5 are the mover's own,
+ * and pits 6 to 11 are the opponent's
+ *
+ * @typedef {object} Move
+ * @property {number} pit
+ * @property {number[]} falls the pits into which its stones fall, one by one
+ * @property {number[]} taken the pits that are captured
+ * @property {boolean} isSlam whether it would take all that the opponent has, and so takes nothing
+ * @property {number} captured how many stones it captures
+ * @property {Board} next the board that it leaves, as the other player sees it
+ */
+
+/** What is refused, by the number and the name that the program has for it (docs/FORMATS.md). */
+class Fault extends Error {
+  constructor(number, name, text) {
+    super(`${text} (${number} ${name})`);
+    this.number = number;
+    this.fault = name;
+    /** Whether the same may succeed later. */
+    this.isPassing = false;
+  }
+}
+
+const MOST_STONES = 48;
+const OWN_PITS = [0, 1, 2, 3, 4, 5];
+
+// ---- boards ----
+
+/** @param {Board} board */
+const stonesOf = board => board.reduce((sum, stones) => sum + stones, 0);
+
+/**
+ * The board as the other player sees it.
+ * @param {Board} board
+ * @returns {Board}
+ */
+const turned = board => [...board.slice(6), ...board.slice(0, 6)];
+
+const print = board => `${board.slice(0, 6)}/${board.slice(6)}`;
+
+const areSame = (board, other) => print(board) === print(other);
+
+/**
+ * The board that a word spells.
+ * @param {string} text
+ * @returns {Board}
+ */
+function parse(text) {
+  const sides = text.split("/").map(side => side.split(","));
+  if (sides.length !== 2 || sides.some(side => side.length !== 6))
+    throw new Fault(1, "Shape", "A board is six numbers, a slash and six numbers, parted by commas");
+  const wrong = sides.flat().find(field => !/^(0|[1-9][0-9]?)$/.test(field));
+  if (wrong !== undefined)
+    throw new Fault(2, "Number", `“${wrong}” is no number from 0 to 99 in its shortest form`);
+  const board = sides.flat().map(Number);
+  if (stonesOf(board) > MOST_STONES)
+    throw new Fault(3, "TooMany", `These are ${stonesOf(board)} stones, and a board has at most ${MOST_STONES}`);
+  return board;
+}
+
+// ---- moves ----
+
+/** Where the stones of a pit fall, one by one. The origin is left out on each lap. */
+const landings = (board, origin) =>
+  Array.from({ length: board[origin] }, (_, stone) => (origin + 1 + stone % 11) % 12);
+
+const opponentHasStones = board => board.slice(6).some(stones => stones > 0);
+
+const feeds = (board, pit) => opponentHasStones(board) || landings(board, pit).some(fall => fall >= 6);
+
+const isLegal = (board, pit) => OWN_PITS.includes(pit) && board[pit] > 0 && feeds(board, pit);
+
+const legalPits = board => OWN_PITS.filter(pit => isLegal(board, pit));
+
+const isEnded = board => legalPits(board).length === 0;
+
+/** What the mover gains if play has ended: each player takes the stones on their own side. */
+const endGain = board => stonesOf(board.slice(0, 6)) === 0 ? -stonesOf(board) : stonesOf(board);
+
+/**
+ * Why a pit can't be played, or null.
+ * @param {Board} board
+ * @param {number} pit
+ */
+function refusalOf(board, pit) {
+  if (!OWN_PITS.includes(pit)) return new Fault(4, "NoPit", `The mover has no pit ${pit}`);
+  if (isEnded(board)) return new Fault(7, "Ended", "The play has ended");
+  if (board[pit] === 0) return new Fault(5, "EmptyPit", `Pit ${pit} is empty`);
+  if (!feeds(board, pit))
+    return new Fault(6, "MustFeed", `The opponent has no stones, and pit ${pit} would give none while another does`);
+  return null;
+}
+
+/** The opponent's pits that a capture would take, from the last stone back. */
+function capturedPits(sown, lastFall) {
+  const taken = [];
+  for (let pit = lastFall; pit >= 6 && (sown[pit] === 2 || sown[pit] === 3); pit--) taken.push(pit);
+  return taken;
+}
+
+/**
+ * The move from a pit. It throws its refusal.
+ * @param {Board} board
+ * @param {number} pit
+ * @returns {Move}
+ */
+function play(board, pit) {
+  const refused = refusalOf(board, pit);
+  if (refused) throw refused;
+  const falls = landings(board, pit), sown = [...board];
+  sown[pit] = 0;
+  for (const fall of falls) sown[fall] += 1;
+  const reached = capturedPits(sown, falls.at(-1));
+  const stones = reached.reduce((sum, each) => sum + sown[each], 0);
+  // A grand slam would take all that the opponent has, and takes nothing.
+  const isSlam = stones > 0 && stones === stonesOf(sown.slice(6));
+  const taken = isSlam ? [] : reached;
+  for (const each of taken) sown[each] = 0;
+  return { pit, falls, taken, isSlam, captured: isSlam ? 0 : stones, next: turned(sown) };
+}
+
+/** How many boards have so many stones: in how many ways they lie in twelve pits. */
+function sizeOf(stones) {
+  let ways = 1;
+  for (let bars = 1; bars <= 11; bars++) ways = ways * (stones + bars) / bars;
+  return ways;
+}
+
+/**
+ * Any board of so many stones, each as likely: eleven bars among the stones part the pits.
+ * @returns {Board}
+ */
+function randomBoard(stones) {
+  const bars = new Set();
+  while (bars.size < 11) bars.add(Math.floor(Math.random() * (stones + 11)));
+  const ends = [-1, ...[...bars].sort((one, other) => one - other), stones + 11];
+  return Array.from({ length: 12 }, (_, pit) => ends[pit + 1] - ends[pit] - 1);
+}
+return { Fault, MOST_STONES, stonesOf, turned, print, areSame, parse, isLegal, legalPits, isEnded, endGain, refusalOf, play, sizeOf, randomBoard };
+})();
+
+const module_puzzle = (() => {
+// Puzzles: boards with one move that keeps the gain, and it is not the greedy one. Nothing here knows of the page.
+//
+// A link names a puzzle by `puzzle=SEED,LEVEL,HARDNESS`, and a sheet of ten by `sheet=..`. The first digit of the
+// hardness is how far the gain is, and the second how much the second best move throws away at least.
+
+const { endGain, isEnded, legalPits, play } = module_rules;
+
+/**
+ * @typedef {import("./rules.mjs").Board} Board
+ * @typedef {import("./level_file.mjs").Entry} Entry
+ *
+ * @typedef {object} Asked what a link names
+ * @property {number} seed
+ * @property {number} level the stones
+ * @property {number} hardness two digits
+ *
+ * @typedef {{ pit: number, captured: number, value: number }} Choice a legal move and what it gains
+ */
+
+/** From which to which distance a digit leads. */
+const PLIES = { 1: [1, 5], 2: [6, 15], 3: [16, 30], 4: [31, Infinity] };
+/** Up to this level each board that is a puzzle is found, and then some are drawn, as `awari boards` does. */
+const HIGHEST_GONE_OVER = 10;
+const LEAST_LEVEL = 3;
+const BOARDS_OF_A_SHEET = 10;
+const HIGHEST_SEED = 4294967295;
+const HIGHEST_LEVEL = 24;
+
+// ---- links ----
+
+/** @param {Asked} asked */
+const printAsked = ({ seed, level, hardness }, kind = "puzzle") => `${kind}=${seed},${level},${hardness}`;
+
+/**
+ * What a link names, and whether that is a `puzzle` or a `sheet`; null if it names none of them.
+ * @returns {{ kind: string, asked: Asked } | null}
+ */
+function parseAsked(text) {
+  const [, kind, words] = /^(puzzle|sheet)=(.*)$/.exec(text.replaceAll(/%2c/gi, ",")) ?? [];
+  if (!kind) return null;
+  const numbers = words.split(",");
+  if (numbers.length !== 3 || !numbers.every(word => /^(0|[1-9]\d{0,9})$/.test(word)))
+    throw new Error(`A ${kind} is named by three numbers: ${kind}=SEED,LEVEL,HARDNESS`);
+  const [seed, level, hardness] = numbers.map(Number);
+  if (seed > HIGHEST_SEED) throw new Error(`A seed is at most ${HIGHEST_SEED}`);
+  if (level < LEAST_LEVEL || level > HIGHEST_LEVEL)
+    throw new Error(`A puzzle has ${LEAST_LEVEL} to ${HIGHEST_LEVEL} stones, and not ${level}`);
+  if (!/^[1-4][1-9]$/.test(numbers[2])) throw new Error(`The hardness is 11 to 49, and not ${numbers[2]}`);
+  return { kind, asked: { seed, level, hardness } };
+}
+
+/** @param {number} hardness */
+const pliesOf = hardness => PLIES[Math.floor(hardness / 10)];
+/** @param {number} hardness */
+const marginOf = hardness => hardness % 10;
+
+/** The words by which `awari boards` draws them, or null if it has none. */
+function wordsOf({ seed, level, hardness }, count) {
+  if (level > HIGHEST_GONE_OVER || marginOf(hardness) > 1) return null;
+  const [least, most] = pliesOf(hardness), distance = `${least}..${most === Infinity ? "" : most}`;
+  const which = `--value 1.. --distance ${distance} --keep 1 --trap 1..`;
+  return `awari boards FOLDER ${level} ${which} --random ${count} --seed ${seed}`;
+}
+
+// ---- which boards are puzzles ----
+
+/**
+ * Whether a board has a gain that is so far.
+ * @param {Entry} entry
+ */
+function isFar({ value, distance }, hardness) {
+  const [least, most] = pliesOf(hardness);
+  return value > 0 && distance >= least && distance <= most;
+}
+
+/** The move that captures most, and among equals the one that gains most. */
+const greedyOf = moves => moves.reduce((best, move) =>
+  move.captured > best.captured || (move.captured === best.captured && move.value > best.value) ? move : best);
+
+/**
+ * Whether one move keeps the value, the others throw away enough, and the greedy one is among those.
+ * @param {number} value
+ * @param {Choice[]} moves
+ */
+function isTrap(value, moves, hardness) {
+  if (moves.filter(move => move.value > value - marginOf(hardness)).length !== 1) return false;
+  const greedy = greedyOf(moves);
+  return greedy.captured > 0 && greedy.value < value;
+}
+
+/** Whether a board may be a puzzle, as far as the rules tell. */
+function mayBePuzzle(board) {
+  const pits = legalPits(board);
+  return pits.length > 1 && pits.some(pit => play(board, pit).captured > 0);
+}
+
+// ---- drawing ----
+
+/** The number after this one, as in `awari boards --random`. */
+const nextNumber = number => BigInt.asUintN(64, number * 6364136223846793005n + 1442695040888963407n);
+
+/**
+ * So many of these, in their order, as `awari boards --random` draws them.
+ * @template T
+ * @param {ArrayLike<T>} all
+ * @returns {T[]}
+ */
+function drawn(all, wanted, seed) {
+  let number = BigInt(seed), left = all.length;
+  return Array.from(all).filter(() => {
+    number = nextNumber(number);
+    const isDrawn = (number >> 32n) % BigInt(left) < BigInt(wanted);
+    left -= 1;
+    wanted -= Number(isDrawn);
+    return isDrawn;
+  });
+}
+
+/** The ranks that a seed leads to, one after the other: for levels that are too large to be gone over. */
+function* ranksOf(seed, boards) {
+  for (let number = nextNumber(BigInt(seed)); ; number = nextNumber(number)) yield Number((number >> 32n) % BigInt(boards));
+}
+
+// ---- what came of one ----
+
+/**
+ * What South, who began, has gained.
+ * @param {import("./game.mjs").State} state
+ */
+function gainOf({ board, mover, captured }) {
+  const left = isEnded(board) ? endGain(board) : 0;
+  return captured[0] - captured[1] + (mover === 0 ? left : -left);
+}
+
+/**
+ * What the moves of a board throw away: how much each, which keep the value, and the least beside those.
+ * @param {number} value
+ * @param {Choice[]} moves
+ */
+function costsOf(value, moves) {
+  const thrown = new Map(moves.map(move => [move.pit, value - move.value]));
+  const right = moves.filter(move => move.value === value).map(({ pit }) => pit);
+  const second = Math.min(...[...thrown.values()].filter(cost => cost > 0));
+  return { thrown, right, second, greedy: greedyOf(moves).pit };
+}
+return { PLIES, HIGHEST_GONE_OVER, LEAST_LEVEL, BOARDS_OF_A_SHEET, printAsked, parseAsked, pliesOf, marginOf, wordsOf, isFar, isTrap, mayBePuzzle, drawn, ranksOf, gainOf, costsOf };
+})();
+
+const module_letters = (() => {
+// The names of pits: numbers as their mover sees them, or letters that stay with the pits. Nothing here knows
+// of the page.
+
+/** South's pits and North's, each from left to right as their owner sees them. */
+const LETTERS = ["ABCDEF", "abcdef"];
+
+/** The letter of a pit that the mover numbers so. */
+const letterOf = (pit, mover) => LETTERS[pit < 6 ? mover : 1 - mover][pit % 6];
+
+/** The name of a pit that the mover numbers so. */
+const pitName = (pit, mover, hasLetters) => hasLetters ? letterOf(pit, mover) : String(pit);
+return { letterOf, pitName };
+})();
+
+const module_words = (() => {
+// Numbers and names as the page writes them. Nothing here knows of the game or of the page.
+
+/** Player 0 and player 1. Who moves first is not said: a board may be set with either to move. */
+const SIDES = ["South", "North"];
+
+const grouped = number => String(number).replace(/\B(?=(\d{3})+$)/g, ",");
+
+const plural = (number, one, many = `${one}s`) => `${grouped(number)} ${number === 1 ? one : many}`;
+
+const plies = number => plural(number, "ply", "plies");
+
+const signed = value => value > 0 ? `+${value}` : value < 0 ? `−${-value}` : "0";
+
+/** The same for a voice, which may leave out a sign. */
+const spoken = value => value > 0 ? `plus ${value}` : value < 0 ? `minus ${-value}` : "0";
+
+const percent = (part, whole) => `${(100 * part / whole).toFixed(1)}%`;
+
+function sizeText(number) {
+  if (number < 1e4) return `${grouped(number)} bytes`;
+  if (number < 1e6) return `${Math.round(number / 1e3)} kB`;
+  if (number < 1e9) return `${(number / 1e6).toFixed(1)} MB`;
+  return `${(number / 1e9).toFixed(2)} GB`;
+}
+
+/** For whom a value is: the name of its colour, too. */
+const kindOf = value => value > 0 ? "won" : value < 0 ? "lost" : "even";
+return { SIDES, grouped, plural, plies, signed, spoken, percent, sizeText, kindOf };
+})();
+
+const module_verdict = (() => {
+// What boards and moves are worth, in words.
+
+const { endGain, isEnded, stonesOf } = module_rules;
+const { pitName } = module_letters;
+const { plies, plural, SIDES, signed, spoken } = module_words;
+
+const endsAhead = (lead, side) =>
+  lead === 0 ? "the two end level" : `${SIDES[lead > 0 ? side : 1 - side]} ends ${Math.abs(lead)} ahead`;
+
+/** How many stones a move threw away, and of what. */
+function wordsOfToll({ before, after, thrown }) {
+  if (thrown === 0) return `keeps the worth, ${signed(before)}`;
+  return `threw away ${plural(thrown, "stone")}: worth ${signed(before)} before, ${signed(after)} after`;
+}
+
+/** A heading and a sentence on what the board is worth. */
+function verdictOf({ state, weighed }) {
+  if (isEnded(state.board)) return verdictOfEnd(state);
+  const side = SIDES[state.mover];
+  if (!weighed?.entry) return [`${side} to move`, weighed?.fault?.message ?? ""];
+  const { value, distance } = weighed.entry, lead = leadOf(state);
+  const inAll = lead === 0 ? "" : `. With what was captured, ${endsAhead(lead + value, state.mover)}`;
+  if (value === 0) return [`${side} to move: even`, `Neither side can force a gain${inAll}`];
+  const winner = SIDES[value > 0 ? state.mover : 1 - state.mover], stones = plural(Math.abs(value), "stone");
+  return [
+    `${side} to move: ${value > 0 ? "gains" : "loses"} ${Math.abs(value)}`,
+    `${winner} can force ${stones} more, and a capture or the end within ${plies(distance)}${inAll}`,
+  ];
+}
+
+/** How much more the mover has captured so far. */
+const leadOf = ({ captured, mover }) => captured[mover] - captured[1 - mover];
+
+function verdictOfEnd(state) {
+  const { board, mover, move } = state, stones = stonesOf(board), gain = endGain(board);
+  const keeper = SIDES[gain > 0 ? mover : 1 - mover], last = stones === 1 ? "stone" : `${stones} stones`;
+  const keeps = stones === 0 ? "No stones are left" : `${keeper} keeps the last ${last}`;
+  return ["Play has ended", move ? `${keeps}; ${endsAhead(leadOf(state) + gain, mover)}` : keeps];
+}
+
+const spokenVerdict = shown => verdictOf(shown).filter(Boolean).join(". ");
+
+/** A grand slam and a capture, a value and a distance of a move, in words for a voice. */
+function wordsOfMove(move, hasHints) {
+  const worth = move.fault || move.value === undefined ? "its worth is not known" : `worth ${spoken(move.value)}`;
+  return [
+    move.captured ? `captures ${move.captured}` : move.isSlam ? "a grand slam, captures nothing" : "captures nothing",
+    ...(hasHints ? [worth] : []),
+    ...(move.distance ? [`within ${plies(move.distance)}`] : []),
+    ...(move.isPlan ? ["the plan"] : []),
+  ].join(", ");
+}
+
+// ---- puzzles ----
+
+/** What there is to do in a puzzle, or what came of it. South solves it. */
+function wordsOfPuzzle({ puzzle, hasLetters }) {
+  const { standing, value, gained, rightMoves, decided } = puzzle;
+  if (value === null) return "The levels are being asked.";
+  if (standing === "home") return `Solved: South has gained ${plural(gained, "stone")}, and threw nothing away.`;
+  if (standing === "round") return `This board was there before, so play goes round: ${gained} of ${value} are home.`;
+  if (standing === "lost") return wordsOfLoss(decided, hasLetters);
+  if (standing === "shown") return `Not solved. ${rightPits(decided, hasLetters)}`;
+  if (rightMoves > 0) return `Right so far: ${gained} of ${value} are home. South to move.`;
+  const { distance } = decided.weighed.entry;
+  return `South gains ${value} by one move alone, and another captures more. A capture or the end comes within ${plies(distance)}.`;
+}
+
+function wordsOfLoss({ weighed, costs, pit }, hasLetters) {
+  const before = weighed.entry.value, thrown = costs.thrown.get(pit);
+  const toll = wordsOfToll({ before, after: before - thrown, thrown });
+  return `Pit ${pitName(pit, 0, hasLetters)} ${toll}. ${rightPits({ costs }, hasLetters)}`;
+}
+
+function rightPits({ costs: { right } }, hasLetters) {
+  const names = right.map(pit => pitName(pit, 0, hasLetters));
+  return names.length === 1 ? `Right is pit ${names[0]}.` : `Right are pits ${names.join(", ")}.`;
+}
+return { wordsOfToll, verdictOf, spokenVerdict, wordsOfMove, wordsOfPuzzle };
+})();
+
+const module_game = (() => {
+// A game: what was played from a board, what each move threw away, and its text, as `awari judge` takes it.
+// Nothing here knows of files or of the page.
+
+const { parse, play, print, refusalOf } = module_rules;
+
+/**
+ * @typedef {import("./rules.mjs").Board} Board
+ *
+ * @typedef {object} State
+ * @property {Board} board as its mover sees it
+ * @property {number} mover whose move it is: 0 South, 1 North
+ * @property {number[]} captured what each side has captured
+ * @property {import("./rules.mjs").Move | null} move the move that led here, null if the board was set up
+ *
+ * @typedef {object} Game
+ * @property {Board} board the first, as its mover sees it
+ * @property {number} mover who moves first
+ * @property {number[]} pits what was played in turn
+ *
+ * @typedef {object} Toll what a move cost its mover
+ * @property {number} before what the board was worth
+ * @property {number} after what it is worth by this move
+ * @property {number} thrown how much less that is
+ */
+
+/** The greatest that `awari judge` takes: by it only the end of play is an outcome. */
+const GREATEST_LIMIT = 4294967295;
+
+/** A move of a game that is refused, and which one that is, from 1 on. */
+class MoveFault extends Error {
+  constructor(refused, at) {
+    super(`Move ${at}: ${refused.message}`);
+    this.number = refused.number;
+    this.fault = refused.fault;
+    this.at = at;
+  }
+}
+
+/**
+ * @param {Board} board
+ * @param {number} mover
+ * @returns {State}
+ */
+const stateOf = (board, mover) => ({ board, mover, captured: [0, 0], move: null });
+
+/**
+ * @param {State} state
+ * @param {number} pit
+ * @returns {State}
+ */
+function stateAfter(state, pit) {
+  const move = play(state.board, pit), captured = [...state.captured];
+  captured[state.mover] += move.captured;
+  return { board: move.next, mover: 1 - state.mover, captured, move };
+}
+
+/**
+ * The states of a game, from its first board on. It is refused for the first move that can't be played.
+ * @param {Game} game
+ */
+function statesOf({ board, mover, pits }) {
+  const states = [stateOf(board, mover)];
+  for (const [index, pit] of pits.entries()) {
+    const refused = refusalOf(states[index].board, pit);
+    if (refused) throw new MoveFault(refused, index + 1);
+    states.push(stateAfter(states[index], pit));
+  }
+  return states;
+}
+
+// ---- what was thrown away ----
+
+/**
+ * What each move of these states cost. Where a worth is not known, it is null.
+ * @param {State[]} states
+ * @param {(board: Board) => Promise<number | null>} valueOf
+ * @returns {Promise<(Toll | null)[]>}
+ */
+async function tollsOf(states, valueOf) {
+  const values = await Promise.all(states.map(({ board }) => valueOf(board)));
+  return states.slice(1).map(({ move }, index) => {
+    const before = values[index], next = values[index + 1];
+    if (before === null || next === null) return null;
+    const after = move.captured - next;
+    return { before, after, thrown: before - after };
+  });
+}
+
+/**
+ * How many stones each side threw away in all.
+ * @param {State[]} states
+ * @param {(Toll | null)[]} tolls
+ */
+function thrownBySides(states, tolls) {
+  const thrown = [0, 0];
+  for (const [index, toll] of tolls.entries()) thrown[states[index].mover] += toll?.thrown ?? 0;
+  return thrown;
+}
+
+// ---- text ----
+
+/**
+ * A game as the words of `awari judge`: its first board, a limit, and the moves. They don't say who is South.
+ * @param {Game} game
+ */
+const printGame = ({ board, pits }, limit = GREATEST_LIMIT) => [print(board), limit, ...pits].join(" ");
+
+/**
+ * Reads such words, with the name of the command or without it. A board alone is a game of no moves. South
+ * moves first.
+ * @returns {Game}
+ */
+function parseGame(text) {
+  const [board, limit, ...moves] = text.trim().replace(/^(\$\s+)?\S*awari\s+judge\s+/, "").split(/\s+/);
+  const game = { board: parse(board), mover: 0, pits: pitsOf(moves.join("")) };
+  if (limit !== undefined && !(/^\d+$/.test(limit) && Number(limit) <= GREATEST_LIMIT))
+    throw new Error(`“${limit}” is no limit. That comes after the board, 0 to ${GREATEST_LIMIT}, and then the moves`);
+  statesOf(game);
+  return game;
+}
+
+/** The pits of moves, a digit each. What is none stays as it is, and is refused in its turn. */
+const pitsOf = moves => [...moves].map(move => /[0-9]/.test(move) ? Number(move) : move);
+return { MoveFault, stateOf, stateAfter, statesOf, tollsOf, thrownBySides, printGame, parseGame, pitsOf };
+})();
+
+const module_opponent = (() => {
+// The opponent: it plays for one side or for both, by what the table says. Nothing here knows of the page.
+
+/** How long it waits, so that one sees what was played before. */
+const MILLISECONDS_OF_A_REPLY = 700;
+
+/**
+ * A move with what it is worth, or why that is not known.
+ * @typedef {{ pit: number, value: number, distance: number, isPlan?: boolean, fault?: Error }} WorthyMove
+ */
+
+/**
+ * The order of the table of moves, the best first: by worth; then the winner hurries and the loser holds out.
+ * A move whose worth is not known comes last.
+ * @param {WorthyMove} one
+ * @param {WorthyMove} other
+ */
+function compareMoves(one, other) {
+  return Number(Boolean(one.fault)) - Number(Boolean(other.fault))
+    || other.value - one.value
+    || (one.value > 0 ? one.distance - other.distance : other.distance - one.distance)
+    || Number(Boolean(other.isPlan)) - Number(Boolean(one.isPlan))
+    || one.pit - other.pit;
+}
+
+/**
+ * The pit that the table plays, or null if there is none or the worth of a move is not known.
+ * @param {WorthyMove[]} moves
+ */
+function tableMove(moves) {
+  const [first] = [...moves].sort(compareMoves);
+  return first && !moves.some(({ fault }) => fault) ? first.pit : null;
+}
+
+/** It rests while one goes to and fro in a game, and goes on once a move is played by hand. */
+class Opponent {
+  /** Whether it plays South, and whether it plays North. */
+  sides = [false, false];
+  isResting = false;
+  #timer = null;
+
+  /**
+   * @param {(pit: number) => void} play
+   * @param {{ setTimeout: Function, clearTimeout: Function }} clock the timers: of the page, or of a test
+   */
+  constructor(play, clock = globalThis) {
+    this.play = play;
+    this.clock = clock;
+  }
+
+  /** Whether a reply is on its way. */
+  get isThinking() { return this.#timer !== null; }
+
+  /** Whether its move comes next, now or once it has rested. */
+  isDue({ mover }) { return this.sides[mover]; }
+
+  setSides(south, north) {
+    this.sides = [south, north];
+    this.isResting = false;
+  }
+
+  rest() {
+    this.stop();
+    this.isResting = true;
+  }
+
+  wake() { this.isResting = false; }
+
+  stop() {
+    this.clock.clearTimeout(this.#timer);
+    this.#timer = null;
+  }
+
+  /** Replies to the state that is shown, if it is its turn and the worths of all moves are known. */
+  consider(state, moves) {
+    this.stop();
+    const pit = tableMove(moves);
+    if (pit === null || this.isResting || !this.isDue(state)) return;
+    this.#timer = this.clock.setTimeout(() => {
+      this.#timer = null;
+      this.play(pit);
+    }, MILLISECONDS_OF_A_REPLY);
+  }
+}
+return { compareMoves, tableMove, Opponent };
+})();
+
+const module_worth_view = (() => {
+// What the board that is shown is worth: a verdict, the table of moves, the best line, and what was played.
+
+const { button, element, refill } = module_elements;
+const { thrownBySides } = module_game;
+const { pitName } = module_letters;
+const { compareMoves } = module_opponent;
+const { endGain, isEnded, legalPits, play } = module_rules;
+const { verdictOf, wordsOfMove, wordsOfToll } = module_verdict;
+const { grouped, kindOf, plies, SIDES, signed } = module_words;
+
+/** More plies of a line than this are counted, and not shown. */
+const MOST_PLIES_SHOWN = 400;
+
+function makeVerdict(shown) {
+  const { state, weighed, hasHints } = shown, hasEnded = isEnded(state.board);
+  const [title, text] = verdictOf(shown);
+  const value = hasEnded ? endGain(state.board) : weighed?.entry?.value;
+  const kind = value === undefined ? "open" : kindOf(value);
+  return element("div", { class: "verdict" },
+    element("div", { class: `value-box ${kind}` },
+      element("span", { id: "value" }, value === undefined ? "?" : signed(value)),
+      element("small", {}, `for ${SIDES[state.mover]}`)),
+    element("div", {},
+      element("b", {}, title),
+      element("p", {}, hasHints || hasEnded ? text && `${text}.` : "Hints are off.")));
+}
+
+// ---- the table of moves ----
+
+function makeMovesTable(shown, hands) {
+  const { state: { board }, weighed, hasHints } = shown;
+  const moves = weighed
+    ? [...weighed.moves].sort(compareMoves)
+    : legalPits(board).map(pit => play(board, pit));
+  const names = ["Move", "Captures", ...(hasHints ? ["Value", "Within"] : [])];
+  const heads = names.map(text => element("th", { scope: "col" }, text));
+  const planHead = element("th", { scope: "col" }, element("span", { class: "unseen" }, "Plan"));
+  return element("table", { id: "moves" },
+    element("caption", { class: "unseen" }, hasHints ? "The legal moves, the best first" : "The legal moves"),
+    element("thead", {}, element("tr", {}, ...heads, hasHints && planHead)),
+    element("tbody", {}, ...moves.map(move => makeMoveRow(move, shown, hands))));
+}
+
+function makeMoveRow(move, { state: { mover }, hasHints, hasLetters }, hands) {
+  const name = pitName(move.pit, mover, hasLetters), label = `Play pit ${name}, ${wordsOfMove(move, hasHints)}`;
+  const playButton = element("button", { type: "button", class: "button", "aria-label": label }, `Pit ${name}`);
+  const slam = element("span", { title: "A grand slam: it would take all, and takes nothing" }, "0 (slam)");
+  const row = element("tr", { "data-pit": move.pit },
+    element("td", {}, playButton),
+    element("td", { class: "captures" }, move.isSlam ? slam : String(move.captured)),
+    ...(hasHints ? makeWorthCells(move) : []));
+  row.addEventListener("click", () => hands.play(move.pit));
+  for (const event of ["pointerenter", "focusin"]) row.addEventListener(event, () => hands.preview(move.pit));
+  for (const event of ["pointerleave", "focusout"]) row.addEventListener(event, () => hands.preview(null));
+  return row;
+}
+
+function makeWorthCells(move) {
+  const isKnown = move.value !== undefined && !move.fault;
+  const value = isKnown
+    ? element("span", { class: `value ${kindOf(move.value)}` }, signed(move.value))
+    : element("span", { class: "soft" }, "?");
+  return [
+    element("td", {}, value),
+    element("td", { class: "within" }, ...(isKnown ? withinOf(move) : [])),
+    element("td", { class: "plan-mark" }, move.isPlan && "plan"),
+  ];
+}
+
+/** The distance. A narrow table has no room for the word behind it. */
+const withinOf = ({ distance }) => distance
+  ? [grouped(distance), element("span", { class: "wide" }, distance === 1 ? " ply" : " plies")]
+  : ["–"];
+
+// ---- what is wrong with it ----
+
+function makeRemarks({ weighed, record }) {
+  const remarks = [], unknown = weighed?.moves.find(move => move.fault);
+  if (weighed?.broken)
+    remarks.push(element("p", { class: "status wrong", role: "alert" },
+      element("b", {}, "The files are wrong here. "),
+      `The entry of this board breaks rule ${weighed.broken} beside those of its moves. See `,
+      element("code", {}, "awari verify FOLDER"), "."));
+  if (weighed?.entry && unknown) remarks.push(element("p", { class: "small bad" }, `${unknown.fault.message}.`));
+  if (record.isRepeated)
+    remarks.push(element("p", { class: "small soft" },
+      "This board was there before. Play that goes on for ever without a capture gains neither side anything."));
+  return remarks;
+}
+
+/** While the entries are being read, what was there before stays, but faint: nothing flickers. */
+function drawWorth(box, shown, hands) {
+  const isWaiting = !shown.weighed && !isEnded(shown.state.board) && shown.hasHints;
+  box.setAttribute("aria-busy", String(!shown.weighed && shown.hasHints));
+  box.classList.toggle("waiting", isWaiting && box.childElementCount > 0);
+  if (isWaiting && box.childElementCount > 0) return;
+  const hasMoves = !isEnded(shown.state.board);
+  refill(box, [makeVerdict(shown), ...(hasMoves ? [makeMovesTable(shown, hands)] : []), ...makeRemarks(shown)]);
+}
+
+/** Whether the proved code says what is shown. */
+function drawStanding(box, { weighed, hasHints }) {
+  if (!weighed && hasHints) return; // what was there before stays, as the worth does
+  box.className = `standing ${weighed?.isProved ? "proved" : ""}`;
+  box.textContent = weighed?.isProved ? "by the proved code" : weighed?.entry ? "not verified" : "";
+}
+
+// ---- plies ----
+
+/**
+ * A move as a button: its pit, what it captured, and what it threw away.
+ * @param {{ pit: number, captured: number }} ply
+ * @param {number} mover
+ * @param {{ label: string, action: () => void, hasLetters: boolean, toll?: import("./game.mjs").Toll | null }} more
+ * @param {{ class?: string, "aria-current"?: string | false }} attributes
+ */
+function makePly({ pit, captured }, mover, { label, action, hasLetters, toll }, attributes = {}) {
+  const side = SIDES[mover], name = pitName(pit, mover, hasLetters);
+  const captures = captured ? `, captures ${captured}` : "", cost = toll?.thrown ? `, ${wordsOfToll(toll)}` : "";
+  const all = {
+    ...attributes,
+    class: `${side.toLowerCase()} ${attributes.class ?? ""}`,
+    title: toll && wordsOfToll(toll),
+    "aria-label": `${label}: ${side}, pit ${name}${captures}${cost}`,
+  };
+  return element("li", {}, button(all, action, name,
+    captured > 0 && element("small", {}, `×${captured}`),
+    toll?.thrown > 0 && element("small", { class: "thrown" }, signed(-toll.thrown))));
+}
+
+function drawLine(box, shown, hands) {
+  const { line, hasHints, hasLetters } = shown, isWaiting = !line && hasHints;
+  box.setAttribute("aria-busy", String(isWaiting));
+  box.classList.toggle("waiting", isWaiting);
+  if (isWaiting) return;
+  if (!line || line.fault) return box.replaceChildren(element("p", { class: "small soft" }, whyNoLine(shown)));
+  const plyList = line.plies.slice(0, MOST_PLIES_SHOWN);
+  refill(box, [
+    ...(plyList.length ? [makePlies(plyList, { mover: shown.state.mover, hasLetters, follow: hands.follow })] : []),
+    element("p", { class: "outcome" }, outcomeText(line, plyList.length, shown.state.mover)),
+    ...makeLineRemarks(line),
+  ]);
+}
+
+/**
+ * The plies of a line, which this side begins. Each goes to where it leads.
+ * @param {{ pit: number, captured: number }[]} list
+ * @param {{ mover: number, hasLetters: boolean, follow: (plies: object[]) => void }} how
+ */
+function makePlies(list, { mover, hasLetters, follow }) {
+  return element("ol", { class: "plies" }, ...list.map((ply, index) => makePly(ply, (mover + index) % 2, {
+    label: `Go to ply ${index + 1} of the line`, action: () => follow(list.slice(0, index + 1)), hasLetters,
+  })));
+}
+
+function whyNoLine({ line, weighed, hasHints }) {
+  if (!hasHints) return "Hints are off.";
+  return weighed?.fault ? "There is no line without the entry of this board." : `${line.fault.message}.`;
+}
+
+function outcomeText(line, shownPlies, mover) {
+  const gains = line.outcome === 0 ? "neither side gains"
+    : `${SIDES[line.outcome > 0 ? mover : 1 - mover]} gains ${Math.abs(line.outcome)}`;
+  const hidden = line.plies.length - shownPlies, more = hidden > 0 ? ` (${plies(hidden)} more)` : "";
+  if (line.ended && line.plies.length === 0) return `Play has ended: ${gains}.`;
+  if (line.ended) return `Play ends after ${plies(line.plies.length)}${more}: ${gains}.`;
+  if (line.repeats !== null) return `From ply ${line.repeats + 1} on the play repeats for ever${more}: ${gains}.`;
+  return `No capture comes any more${more}: ${gains}.`;
+}
+
+function makeLineRemarks({ outcome, value }) {
+  if (outcome === value) return [];
+  const text = `The plans come to ${signed(outcome)}, and the value is ${signed(value)}: the files are wrong.`;
+  return [element("p", { class: "bad small", role: "alert" }, text)];
+}
+
+/** The moves of the play that is shown, its score, and what was thrown away. */
+function drawPlayed({ card, list, score, told }, { record, state, tolls, hasLetters }, hands) {
+  const { start, end, at } = record;
+  card.hidden = start === end;
+  const items = record.states.slice(start + 1, end + 1).map((to, offset) => {
+    const index = start + 1 + offset, toll = tolls.get(to);
+    const attributes = { class: index > at ? "later" : "", "aria-current": index === at && "step" };
+    const ply = { label: `Go to ply ${offset + 1}`, action: () => hands.go(index), hasLetters, toll };
+    return makePly(to.move, 1 - to.mover, ply, attributes);
+  });
+  refill(list, items, "[aria-current]");
+  scrollTo(list, list.querySelector("[aria-current]"));
+  score.textContent = `South ${state.captured[0]} : ${state.captured[1]} North`;
+  told.textContent = thrownText(record.states.slice(start, at + 1), tolls, hasLetters);
+}
+
+/** Scrolls a list, and not the page, so that an element is in its middle. */
+function scrollTo(list, element) {
+  if (element) list.scrollTop = element.offsetTop - list.offsetTop - list.clientHeight / 2;
+}
+
+/** What the last of these moves cost, and what both sides threw away by all of them. */
+function thrownText(states, tolls, hasLetters) {
+  const { move, mover } = states.at(-1), toll = tolls.get(states.at(-1));
+  if (!move || !toll) return "";
+  const last = `${SIDES[1 - mover]}’s pit ${pitName(move.pit, 1 - mover, hasLetters)} ${wordsOfToll(toll)}.`;
+  const [south, north] = thrownBySides(states, states.slice(1).map(state => tolls.get(state) ?? null));
+  return south + north === 0 ? last : `${last} In all South threw away ${south} and North ${north}.`;
+}
+return { drawWorth, drawStanding, drawLine, makePlies, drawPlayed };
+})();
+
+const module_puzzle_view = (() => {
+// The card of puzzles: which one is wanted, what there is to do, what came of it, and the streak.
+
+const { byId, element, refill } = module_elements;
+const { LEAST_LEVEL, marginOf } = module_puzzle;
+const { wordsOfPuzzle } = module_verdict;
+const { makePlies } = module_worth_view;
+
+/** @typedef {import("./session.mjs").Shown} Shown */
+
+const HIGHEST_SEED_DRAWN = 1_000_000;
+const KINDS = { home: "right", lost: "wrong", round: "wrong", shown: "wrong" };
+
+/** The puzzle that the fields ask for, by another seed each time. */
+function askedOfFields() {
+  const level = Math.max(LEAST_LEVEL, Math.min(24, Math.floor(Number(byId("puzzle-level").value)) || LEAST_LEVEL));
+  const hardness = Number(byId("puzzle-plies").value + byId("puzzle-margin").value);
+  return { seed: Math.floor(Math.random() * HIGHEST_SEED_DRAWN), level, hardness };
+}
+
+/** Shows in the fields what a link asked for. */
+function fillFields({ level, hardness }) {
+  byId("puzzle-level").value = String(level);
+  byId("puzzle-plies").value = String(Math.floor(hardness / 10));
+  const margins = [...byId("puzzle-margin").options].map(({ value }) => value);
+  if (margins.includes(String(marginOf(hardness)))) byId("puzzle-margin").value = String(marginOf(hardness));
+}
+
+class PuzzleView {
+  #drawn = null;
+
+  /** @param {{ follow: (plies: object[]) => void }} hands */
+  constructor(hands) { this.hands = hands; }
+
+  /**
+   * @param {Shown} shown
+   * @param {import("./streak.mjs").Streak} streak
+   */
+  draw(shown, streak) {
+    const { puzzle, puzzleTold } = shown;
+    if (puzzle && puzzle !== this.#drawn) fillFields(puzzle.asked);
+    this.#drawn = puzzle;
+    const told = puzzleTold || (puzzle ? wordsOfPuzzle(shown) : "");
+    byId("puzzle-told").textContent = told;
+    byId("puzzle-hint").hidden = Boolean(told);
+    byId("puzzle-told").hidden = !told;
+    byId("puzzle-told").className = puzzleTold ? "status" : `status ${KINDS[puzzle?.standing] ?? ""}`;
+    byId("puzzle-card").setAttribute("aria-busy", String(puzzleTold.endsWith("…")));
+    byId("solution").hidden = !puzzle?.isOpen;
+    byId("again").hidden = !puzzle || puzzle.isOpen;
+    byId("streak").textContent = streak.text;
+    this.#drawLine(shown);
+  }
+
+  #drawLine({ puzzle, hasLetters }) {
+    const plies = puzzle?.line?.plies ?? [];
+    byId("puzzle-line").hidden = plies.length === 0;
+    if (plies.length === 0) return byId("puzzle-line").replaceChildren();
+    refill(byId("puzzle-line"), [
+      element("p", { class: "small soft" }, "The line of both sides’ best moves:"),
+      makePlies(plies, { mover: 0, hasLetters, follow: this.hands.follow }),
+    ]);
+  }
+}
+return { askedOfFields, PuzzleView };
+})();
+
 const module_hands = (() => {
 // What hands and keys do: buttons, fields, what is pasted or dropped, and the address.
 
 const { onAddress } = module_address;
 const { byId, element, isOff } = module_elements;
 const { filesOfDrop, filesOfInput } = module_files;
+const { askedOfFields } = module_puzzle_view;
 
 /**
  * @typedef {import("./session.mjs").Session} Session
@@ -747,7 +1992,7 @@ const { filesOfDrop, filesOfInput } = module_files;
 const MILLISECONDS_OF_A_DOWNLOAD = 60_000;
 const MILLISECONDS_BETWEEN_DOWNLOADS = 200;
 const KEYS = {
-  b: "best", p: "auto", u: "undo", r: "redo", t: "turn", s: "swap", e: "edit", h: "hints", l: "letters",
+  n: "puzzle", b: "best", p: "auto", u: "undo", r: "redo", t: "turn", s: "swap", e: "edit", h: "hints", l: "letters",
 };
 
 const isField = target => /^(INPUT|TEXTAREA|SELECT)$/.test(target.tagName) && target.type !== "checkbox";
@@ -783,6 +2028,12 @@ function actionsOf(session, views) {
     takes: () => session.setTaking(true),
     clear: () => session.clear(),
     random: () => session.setRandomBoard(Number(byId("random-stones").value)),
+    puzzle: () => session.openPuzzle(askedOfFields()),
+    solution: () => session.showSolution(),
+    again: () => session.tryAgain(),
+    "sheet-button": () => session.openSheet(askedOfFields(), true),
+    "print-sheet": () => print(),
+    "close-sheet": () => session.show({ isStep: true }),
     copy: () => copy(session.word, "The board", views),
     "copy-game": () => copy(session.gameText, "The game", views),
     "copy-link": () => copy(location.href, "The link", views),
@@ -938,185 +2189,6 @@ async function openFiles(session, chosen) {
   document.body.dataset.opened = String(Number(document.body.dataset.opened ?? 0) + 1);
 }
 return { bindHands };
-})();
-
-const module_rules = (() => {
-// The game by docs/RULES.md. Nothing here knows of files or of the page.
-//
-// The proved code answers from a thread of its own, and what a pointer passes over is drawn at once: where the
-// stones of a pit fall, and whether it can be played. So the rules are here too, and tested beside the program.
-
-/**
- * @typedef {number[]} Board the stones of twelve pits, as the mover sees them: pits 0 to 5 are the mover's own,
- * and pits 6 to 11 are the opponent's
- *
- * @typedef {object} Move
- * @property {number} pit
- * @property {number[]} falls the pits into which its stones fall, one by one
- * @property {number[]} taken the pits that are captured
- * @property {boolean} isSlam whether it would take all that the opponent has, and so takes nothing
- * @property {number} captured how many stones it captures
- * @property {Board} next the board that it leaves, as the other player sees it
- */
-
-/** What is refused, by the number and the name that the program has for it (docs/FORMATS.md). */
-class Fault extends Error {
-  constructor(number, name, text) {
-    super(`${text} (${number} ${name})`);
-    this.number = number;
-    this.fault = name;
-    /** Whether the same may succeed later. */
-    this.isPassing = false;
-  }
-}
-
-const MOST_STONES = 48;
-const OWN_PITS = [0, 1, 2, 3, 4, 5];
-
-// ---- boards ----
-
-/** @param {Board} board */
-const stonesOf = board => board.reduce((sum, stones) => sum + stones, 0);
-
-/**
- * The board as the other player sees it.
- * @param {Board} board
- * @returns {Board}
- */
-const turned = board => [...board.slice(6), ...board.slice(0, 6)];
-
-const print = board => `${board.slice(0, 6)}/${board.slice(6)}`;
-
-const areSame = (board, other) => print(board) === print(other);
-
-/**
- * The board that a word spells.
- * @param {string} text
- * @returns {Board}
- */
-function parse(text) {
-  const sides = text.split("/").map(side => side.split(","));
-  if (sides.length !== 2 || sides.some(side => side.length !== 6))
-    throw new Fault(1, "Shape", "A board is six numbers, a slash and six numbers, parted by commas");
-  const wrong = sides.flat().find(field => !/^(0|[1-9][0-9]?)$/.test(field));
-  if (wrong !== undefined)
-    throw new Fault(2, "Number", `“${wrong}” is no number from 0 to 99 in its shortest form`);
-  const board = sides.flat().map(Number);
-  if (stonesOf(board) > MOST_STONES)
-    throw new Fault(3, "TooMany", `These are ${stonesOf(board)} stones, and a board has at most ${MOST_STONES}`);
-  return board;
-}
-
-// ---- moves ----
-
-/** Where the stones of a pit fall, one by one. The origin is left out on each lap. */
-const landings = (board, origin) =>
-  Array.from({ length: board[origin] }, (_, stone) => (origin + 1 + stone % 11) % 12);
-
-const opponentHasStones = board => board.slice(6).some(stones => stones > 0);
-
-const feeds = (board, pit) => opponentHasStones(board) || landings(board, pit).some(fall => fall >= 6);
-
-const isLegal = (board, pit) => OWN_PITS.includes(pit) && board[pit] > 0 && feeds(board, pit);
-
-const legalPits = board => OWN_PITS.filter(pit => isLegal(board, pit));
-
-const isEnded = board => legalPits(board).length === 0;
-
-/** What the mover gains if play has ended: each player takes the stones on their own side. */
-const endGain = board => stonesOf(board.slice(0, 6)) === 0 ? -stonesOf(board) : stonesOf(board);
-
-/**
- * Why a pit can't be played, or null.
- * @param {Board} board
- * @param {number} pit
- */
-function refusalOf(board, pit) {
-  if (!OWN_PITS.includes(pit)) return new Fault(4, "NoPit", `The mover has no pit ${pit}`);
-  if (isEnded(board)) return new Fault(7, "Ended", "The play has ended");
-  if (board[pit] === 0) return new Fault(5, "EmptyPit", `Pit ${pit} is empty`);
-  if (!feeds(board, pit))
-    return new Fault(6, "MustFeed", `The opponent has no stones, and pit ${pit} would give none while another does`);
-  return null;
-}
-
-/** The opponent's pits that a capture would take, from the last stone back. */
-function capturedPits(sown, lastFall) {
-  const taken = [];
-  for (let pit = lastFall; pit >= 6 && (sown[pit] === 2 || sown[pit] === 3); pit--) taken.push(pit);
-  return taken;
-}
-
-/**
- * The move from a pit. It throws its refusal.
- * @param {Board} board
- * @param {number} pit
- * @returns {Move}
- */
-function play(board, pit) {
-  const refused = refusalOf(board, pit);
-  if (refused) throw refused;
-  const falls = landings(board, pit), sown = [...board];
-  sown[pit] = 0;
-  for (const fall of falls) sown[fall] += 1;
-  const reached = capturedPits(sown, falls.at(-1));
-  const stones = reached.reduce((sum, each) => sum + sown[each], 0);
-  // A grand slam would take all that the opponent has, and takes nothing.
-  const isSlam = stones > 0 && stones === stonesOf(sown.slice(6));
-  const taken = isSlam ? [] : reached;
-  for (const each of taken) sown[each] = 0;
-  return { pit, falls, taken, isSlam, captured: isSlam ? 0 : stones, next: turned(sown) };
-}
-
-/** How many boards have so many stones: in how many ways they lie in twelve pits. */
-function sizeOf(stones) {
-  let ways = 1;
-  for (let bars = 1; bars <= 11; bars++) ways = ways * (stones + bars) / bars;
-  return ways;
-}
-
-/**
- * Any board of so many stones, each as likely: eleven bars among the stones part the pits.
- * @returns {Board}
- */
-function randomBoard(stones) {
-  const bars = new Set();
-  while (bars.size < 11) bars.add(Math.floor(Math.random() * (stones + 11)));
-  const ends = [-1, ...[...bars].sort((one, other) => one - other), stones + 11];
-  return Array.from({ length: 12 }, (_, pit) => ends[pit + 1] - ends[pit] - 1);
-}
-return { Fault, MOST_STONES, stonesOf, turned, print, areSame, parse, isLegal, legalPits, isEnded, endGain, refusalOf, play, sizeOf, randomBoard };
-})();
-
-const module_words = (() => {
-// Numbers and names as the page writes them. Nothing here knows of the game or of the page.
-
-/** Player 0 and player 1. Who moves first is not said: a board may be set with either to move. */
-const SIDES = ["South", "North"];
-
-const grouped = number => String(number).replace(/\B(?=(\d{3})+$)/g, ",");
-
-const plural = (number, one, many = `${one}s`) => `${grouped(number)} ${number === 1 ? one : many}`;
-
-const plies = number => plural(number, "ply", "plies");
-
-const signed = value => value > 0 ? `+${value}` : value < 0 ? `−${-value}` : "0";
-
-/** The same for a voice, which may leave out a sign. */
-const spoken = value => value > 0 ? `plus ${value}` : value < 0 ? `minus ${-value}` : "0";
-
-const percent = (part, whole) => `${(100 * part / whole).toFixed(1)}%`;
-
-function sizeText(number) {
-  if (number < 1e4) return `${grouped(number)} bytes`;
-  if (number < 1e6) return `${Math.round(number / 1e3)} kB`;
-  if (number < 1e9) return `${(number / 1e6).toFixed(1)} MB`;
-  return `${(number / 1e9).toFixed(2)} GB`;
-}
-
-/** For whom a value is: the name of its colour, too. */
-const kindOf = value => value > 0 ? "won" : value < 0 ? "lost" : "even";
-return { SIDES, grouped, plural, plies, signed, spoken, percent, sizeText, kindOf };
 })();
 
 const module_level_file = (() => {
@@ -1576,11 +2648,10 @@ function drawStones(count, pit) {
 return { drawStones };
 })();
 
-const module_rules_view = (() => {
-// The pictures of the rules: a board before a move and after its sowing, for each figure that names the two.
+const module_small_board = (() => {
+// Small pictures of boards, as the rules and a sheet of puzzles have them.
 
-const { button, drawing, element } = module_elements;
-const { parse, play, refusalOf } = module_rules;
+const { drawing } = module_elements;
 const { drawStones } = module_stones;
 
 /**
@@ -1638,6 +2709,17 @@ const drawSmallBoard = (board, when, marks) =>
   drawing("rect", { class: "wood", x: 3, y: 3, width: WIDTH - 6, height: HEIGHT - 6, rx: 30 }),
   drawing("line", { class: "ridge", x1: EDGE, x2: WIDTH - EDGE, y1: HEIGHT / 2, y2: HEIGHT / 2 }),
   ...board.map((_, pit) => drawPit(board, pit, marks)));
+return { drawSmallBoard };
+})();
+
+const module_rules_view = (() => {
+// The pictures of the rules: a board before a move and after its sowing, for each figure that names the two.
+
+const { button, element } = module_elements;
+const { parse, play, refusalOf } = module_rules;
+const { drawSmallBoard } = module_small_board;
+
+/** @typedef {import("./rules.mjs").Board} Board */
 
 /** A board with its stones sown, and nothing captured yet. */
 function sownBoard(board, { pit, falls }) {
@@ -1679,148 +2761,6 @@ function drawExamples(figures, hands) {
   }
 }
 return { drawExamples };
-})();
-
-const module_game = (() => {
-// A game: what was played from a board, what each move threw away, and its text, as `awari judge` takes it.
-// Nothing here knows of files or of the page.
-
-const { parse, play, print, refusalOf } = module_rules;
-
-/**
- * @typedef {import("./rules.mjs").Board} Board
- *
- * @typedef {object} State
- * @property {Board} board as its mover sees it
- * @property {number} mover whose move it is: 0 South, 1 North
- * @property {number[]} captured what each side has captured
- * @property {import("./rules.mjs").Move | null} move the move that led here, null if the board was set up
- *
- * @typedef {object} Game
- * @property {Board} board the first, as its mover sees it
- * @property {number} mover who moves first
- * @property {number[]} pits what was played in turn
- *
- * @typedef {object} Toll what a move cost its mover
- * @property {number} before what the board was worth
- * @property {number} after what it is worth by this move
- * @property {number} thrown how much less that is
- */
-
-/** The greatest that `awari judge` takes: by it only the end of play is an outcome. */
-const GREATEST_LIMIT = 4294967295;
-
-/** A move of a game that is refused, and which one that is, from 1 on. */
-class MoveFault extends Error {
-  constructor(refused, at) {
-    super(`Move ${at}: ${refused.message}`);
-    this.number = refused.number;
-    this.fault = refused.fault;
-    this.at = at;
-  }
-}
-
-/**
- * @param {Board} board
- * @param {number} mover
- * @returns {State}
- */
-const stateOf = (board, mover) => ({ board, mover, captured: [0, 0], move: null });
-
-/**
- * @param {State} state
- * @param {number} pit
- * @returns {State}
- */
-function stateAfter(state, pit) {
-  const move = play(state.board, pit), captured = [...state.captured];
-  captured[state.mover] += move.captured;
-  return { board: move.next, mover: 1 - state.mover, captured, move };
-}
-
-/**
- * The states of a game, from its first board on. It is refused for the first move that can't be played.
- * @param {Game} game
- */
-function statesOf({ board, mover, pits }) {
-  const states = [stateOf(board, mover)];
-  for (const [index, pit] of pits.entries()) {
-    const refused = refusalOf(states[index].board, pit);
-    if (refused) throw new MoveFault(refused, index + 1);
-    states.push(stateAfter(states[index], pit));
-  }
-  return states;
-}
-
-// ---- what was thrown away ----
-
-/**
- * What each move of these states cost. Where a worth is not known, it is null.
- * @param {State[]} states
- * @param {(board: Board) => Promise<number | null>} valueOf
- * @returns {Promise<(Toll | null)[]>}
- */
-async function tollsOf(states, valueOf) {
-  const values = await Promise.all(states.map(({ board }) => valueOf(board)));
-  return states.slice(1).map(({ move }, index) => {
-    const before = values[index], next = values[index + 1];
-    if (before === null || next === null) return null;
-    const after = move.captured - next;
-    return { before, after, thrown: before - after };
-  });
-}
-
-/**
- * How many stones each side threw away in all.
- * @param {State[]} states
- * @param {(Toll | null)[]} tolls
- */
-function thrownBySides(states, tolls) {
-  const thrown = [0, 0];
-  for (const [index, toll] of tolls.entries()) thrown[states[index].mover] += toll?.thrown ?? 0;
-  return thrown;
-}
-
-// ---- text ----
-
-/**
- * A game as the words of `awari judge`: its first board, a limit, and the moves. They don't say who is South.
- * @param {Game} game
- */
-const printGame = ({ board, pits }, limit = GREATEST_LIMIT) => [print(board), limit, ...pits].join(" ");
-
-/**
- * Reads such words, with the name of the command or without it. A board alone is a game of no moves. South
- * moves first.
- * @returns {Game}
- */
-function parseGame(text) {
-  const [board, limit, ...moves] = text.trim().replace(/^(\$\s+)?\S*awari\s+judge\s+/, "").split(/\s+/);
-  const game = { board: parse(board), mover: 0, pits: pitsOf(moves.join("")) };
-  if (limit !== undefined && !(/^\d+$/.test(limit) && Number(limit) <= GREATEST_LIMIT))
-    throw new Error(`“${limit}” is no limit. That comes after the board, 0 to ${GREATEST_LIMIT}, and then the moves`);
-  statesOf(game);
-  return game;
-}
-
-/** The pits of moves, a digit each. What is none stays as it is, and is refused in its turn. */
-const pitsOf = moves => [...moves].map(move => /[0-9]/.test(move) ? Number(move) : move);
-return { MoveFault, stateOf, stateAfter, statesOf, tollsOf, thrownBySides, printGame, parseGame, pitsOf };
-})();
-
-const module_letters = (() => {
-// The names of pits: numbers as their mover sees them, or letters that stay with the pits. Nothing here knows
-// of the page.
-
-/** South's pits and North's, each from left to right as their owner sees them. */
-const LETTERS = ["ABCDEF", "abcdef"];
-
-/** The letter of a pit that the mover numbers so. */
-const letterOf = (pit, mover) => LETTERS[pit < 6 ? mover : 1 - mover][pit % 6];
-
-/** The name of a pit that the mover numbers so. */
-const pitName = (pit, mover, hasLetters) => hasLetters ? letterOf(pit, mover) : String(pit);
-return { letterOf, pitName };
 })();
 
 const module_kept = (() => {
@@ -2085,9 +3025,15 @@ class Library {
    * @type {Proved | null}
    */
   #trial = null;
-  /** Come once the first levels are there, and those that the browser has kept. */
+  /** Comes once the first levels are there. */
   #first = Promise.resolve();
-  #begun = Promise.resolve();
+  /** Comes once those are there, too, that the browser has kept. */
+  begun = Promise.resolve();
+  /**
+   * Comes once the levels of the page's server are there.
+   * @type {Promise<void>}
+   */
+  hosting = Promise.resolve();
   /** Whether a hand has stopped the build, which may be between two levels. */
   #isStopped = false;
   /** Files are kept one after the other, and nobody waits for it. */
@@ -2132,8 +3078,8 @@ class Library {
   /** Takes the first levels, and then those that the browser has kept. */
   async begin() {
     this.#first = this.#takeFirst();
-    this.#begun = this.#first.then(() => this.#takeKept());
-    await this.#begun;
+    this.begun = this.#first.then(() => this.#takeKept());
+    await this.begun;
   }
 
   async #takeFirst() {
@@ -2206,7 +3152,7 @@ class Library {
 
   /** Builds the levels that are missing up to this one, in slices, and keeps their files. */
   async build(top) {
-    await this.#begun;
+    await this.begun;
     if (this.work) return;
     const { proved } = this, first = this.length, tell = this.#teller("build", "Building", first, top);
     this.notice = null;
@@ -2332,7 +3278,12 @@ class Library {
    * Takes the levels of a folder of the page's own server, above those that are there, each as it comes.
    * @param {import("./hosted.mjs").Hosted} hosted
    */
-  async host(hosted) {
+  host(hosted) {
+    this.hosting = this.#host(hosted);
+    return this.hosting;
+  }
+
+  async #host(hosted) {
     const { folder, isAsked } = hosted, first = this.length;
     if (folder.origin !== location.origin)
       return this.#tell(`Levels are read from this server alone, and not from ${folder.origin}.`);
@@ -2476,236 +3427,6 @@ function unescaped(text) {
 return { printLink, parseLink };
 })();
 
-const module_opponent = (() => {
-// The opponent: it plays for one side or for both, by what the table says. Nothing here knows of the page.
-
-/** How long it waits, so that one sees what was played before. */
-const MILLISECONDS_OF_A_REPLY = 700;
-
-/**
- * A move with what it is worth, or why that is not known.
- * @typedef {{ pit: number, value: number, distance: number, isPlan?: boolean, fault?: Error }} WorthyMove
- */
-
-/**
- * The order of the table of moves, the best first: by worth; then the winner hurries and the loser holds out.
- * A move whose worth is not known comes last.
- * @param {WorthyMove} one
- * @param {WorthyMove} other
- */
-function compareMoves(one, other) {
-  return Number(Boolean(one.fault)) - Number(Boolean(other.fault))
-    || other.value - one.value
-    || (one.value > 0 ? one.distance - other.distance : other.distance - one.distance)
-    || Number(Boolean(other.isPlan)) - Number(Boolean(one.isPlan))
-    || one.pit - other.pit;
-}
-
-/**
- * The pit that the table plays, or null if there is none or the worth of a move is not known.
- * @param {WorthyMove[]} moves
- */
-function tableMove(moves) {
-  const [first] = [...moves].sort(compareMoves);
-  return first && !moves.some(({ fault }) => fault) ? first.pit : null;
-}
-
-/** It rests while one goes to and fro in a game, and goes on once a move is played by hand. */
-class Opponent {
-  /** Whether it plays South, and whether it plays North. */
-  sides = [false, false];
-  isResting = false;
-  #timer = null;
-
-  /**
-   * @param {(pit: number) => void} play
-   * @param {{ setTimeout: Function, clearTimeout: Function }} clock the timers: of the page, or of a test
-   */
-  constructor(play, clock = globalThis) {
-    this.play = play;
-    this.clock = clock;
-  }
-
-  /** Whether a reply is on its way. */
-  get isThinking() { return this.#timer !== null; }
-
-  /** Whether its move comes next, now or once it has rested. */
-  isDue({ mover }) { return this.sides[mover]; }
-
-  setSides(south, north) {
-    this.sides = [south, north];
-    this.isResting = false;
-  }
-
-  rest() {
-    this.stop();
-    this.isResting = true;
-  }
-
-  wake() { this.isResting = false; }
-
-  stop() {
-    this.clock.clearTimeout(this.#timer);
-    this.#timer = null;
-  }
-
-  /** Replies to the state that is shown, if it is its turn and the worths of all moves are known. */
-  consider(state, moves) {
-    this.stop();
-    const pit = tableMove(moves);
-    if (pit === null || this.isResting || !this.isDue(state)) return;
-    this.#timer = this.clock.setTimeout(() => {
-      this.#timer = null;
-      this.play(pit);
-    }, MILLISECONDS_OF_A_REPLY);
-  }
-}
-return { compareMoves, tableMove, Opponent };
-})();
-
-const module_record = (() => {
-// What was set up and played: a list of states, one of which is shown. Nothing here knows of the page.
-
-const { stateAfter, stateOf, statesOf } = module_game;
-const { areSame } = module_rules;
-
-class Record {
-  /** @param {import("./rules.mjs").Board} board */
-  constructor(board) { this.startAt(board); }
-
-  startAt(board) {
-    this.states = [stateOf(board, 0)];
-    this.at = 0;
-  }
-
-  get now() { return this.states[this.at]; }
-  get isFirst() { return this.at === 0; }
-  get isLast() { return this.at === this.states.length - 1; }
-
-  go(index) { this.at = Math.max(0, Math.min(index, this.states.length - 1)); }
-
-  /** Puts a state behind the one that is shown. What was behind that is gone. */
-  add(state) {
-    this.states = [...this.states.slice(0, this.at + 1), state];
-    this.at += 1;
-  }
-
-  play(pit) { this.add(stateAfter(this.now, pit)); }
-
-  setUp(board, mover) {
-    const isShown = areSame(board, this.now.board) && mover === this.now.mover && !this.now.move;
-    if (!isShown) this.add(stateOf(board, mover));
-  }
-
-  /** The state from which the play that is shown began. */
-  get start() {
-    let index = this.at;
-    while (this.states[index].move) index--;
-    return index;
-  }
-
-  /** The last state of that play, which may lie behind the one that is shown. */
-  get end() {
-    let index = this.at;
-    while (this.states[index + 1]?.move) index++;
-    return index;
-  }
-
-  /**
-   * The play that is shown, and how many of its moves led to what is shown.
-   * @returns {import("./game.mjs").Game & { at: number }}
-   */
-  get game() {
-    const { start, at } = this, { board, mover } = this.states[start];
-    const pits = this.states.slice(start + 1, this.end + 1).map(({ move }) => move.pit);
-    return { board, mover, pits, at: at - start };
-  }
-
-  /**
-   * Shows a place of a game: where the record has it, and else in place of all that was there.
-   * @param {import("./game.mjs").Game & { at: number }} game
-   */
-  open(game) {
-    const starts = [this.start, ...this.states.keys()], start = starts.find(index => this.#holds(game, index));
-    if (start === undefined) this.states = statesOf(game);
-    this.at = (start ?? 0) + game.at;
-  }
-
-  /** Whether a game begins at a state, with more moves behind its own or not. */
-  #holds({ board, mover, pits }, index) {
-    const state = this.states[index];
-    return !state.move && state.mover === mover && areSame(state.board, board)
-      && pits.every((pit, ply) => this.states[index + 1 + ply]?.move?.pit === pit);
-  }
-
-  /** Whether the board was there before, with the same side to move and no capture since. */
-  get isRepeated() {
-    const { board, mover } = this.now;
-    for (let index = this.at; this.states[index].move?.captured === 0; index--) {
-      const before = this.states[index - 1];
-      if (before.mover === mover && areSame(before.board, board)) return true;
-    }
-    return false;
-  }
-}
-return { Record };
-})();
-
-const module_verdict = (() => {
-// What boards and moves are worth, in words.
-
-const { endGain, isEnded, stonesOf } = module_rules;
-const { plies, plural, SIDES, signed, spoken } = module_words;
-
-const endsAhead = (lead, side) =>
-  lead === 0 ? "the two end level" : `${SIDES[lead > 0 ? side : 1 - side]} ends ${Math.abs(lead)} ahead`;
-
-/** How many stones a move threw away, and of what. */
-function wordsOfToll({ before, after, thrown }) {
-  if (thrown === 0) return `keeps the worth, ${signed(before)}`;
-  return `threw away ${plural(thrown, "stone")}: worth ${signed(before)} before, ${signed(after)} after`;
-}
-
-/** A heading and a sentence on what the board is worth. */
-function verdictOf({ state, weighed }) {
-  if (isEnded(state.board)) return verdictOfEnd(state);
-  const side = SIDES[state.mover];
-  if (!weighed?.entry) return [`${side} to move`, weighed?.fault?.message ?? ""];
-  const { value, distance } = weighed.entry, lead = leadOf(state);
-  const inAll = lead === 0 ? "" : `. With what was captured, ${endsAhead(lead + value, state.mover)}`;
-  if (value === 0) return [`${side} to move: even`, `Neither side can force a gain${inAll}`];
-  const winner = SIDES[value > 0 ? state.mover : 1 - state.mover], stones = plural(Math.abs(value), "stone");
-  return [
-    `${side} to move: ${value > 0 ? "gains" : "loses"} ${Math.abs(value)}`,
-    `${winner} can force ${stones} more, and a capture or the end within ${plies(distance)}${inAll}`,
-  ];
-}
-
-/** How much more the mover has captured so far. */
-const leadOf = ({ captured, mover }) => captured[mover] - captured[1 - mover];
-
-function verdictOfEnd(state) {
-  const { board, mover, move } = state, stones = stonesOf(board), gain = endGain(board);
-  const keeper = SIDES[gain > 0 ? mover : 1 - mover], last = stones === 1 ? "stone" : `${stones} stones`;
-  const keeps = stones === 0 ? "No stones are left" : `${keeper} keeps the last ${last}`;
-  return ["Play has ended", move ? `${keeps}; ${endsAhead(leadOf(state) + gain, mover)}` : keeps];
-}
-
-const spokenVerdict = shown => verdictOf(shown).filter(Boolean).join(". ");
-
-/** A grand slam and a capture, a value and a distance of a move, in words for a voice. */
-function wordsOfMove(move, hasHints) {
-  const worth = move.fault || move.value === undefined ? "its worth is not known" : `worth ${spoken(move.value)}`;
-  return [
-    move.captured ? `captures ${move.captured}` : move.isSlam ? "a grand slam, captures nothing" : "captures nothing",
-    ...(hasHints ? [worth] : []),
-    ...(move.distance ? [`within ${plies(move.distance)}`] : []),
-    ...(move.isPlan ? ["the plan"] : []),
-  ].join(", ");
-}
-return { wordsOfToll, verdictOf, spokenVerdict, wordsOfMove };
-})();
-
 const module_worths = (() => {
 // What boards are worth, and how play goes on: by the proved code where it knows a level, and else by its file.
 
@@ -2843,6 +3564,334 @@ async function walk(board, pitAt) {
 return { weigh, worthOf, brokenRule, bestLine };
 })();
 
+const module_puzzler = (() => {
+// Draws puzzles from the levels that are there. Nothing here knows of elements.
+
+const {
+  BOARDS_OF_A_SHEET, drawn, HIGHEST_GONE_OVER, isFar, isTrap, marginOf, mayBePuzzle, pliesOf, ranksOf,
+} = module_puzzle;
+const { sizeOf } = module_rules;
+const { bestLine, weigh } = module_worths;
+const { plies, plural } = module_words;
+
+/**
+ * @typedef {import("./puzzle.mjs").Asked} Asked
+ * @typedef {import("./rules.mjs").Board} Board
+ * @typedef {import("./worths.mjs").Weighed} Weighed
+ */
+
+/** So many boards are tried at once, and so many in all, of a level that is not gone over. */
+const TRIED_AT_ONCE = 24, MOST_TRIED = 6000;
+
+class Puzzler {
+  /** The puzzles of a level, by its number and the hardness. */
+  #found = new Map();
+
+  /** @param {import("./library.mjs").Library} library */
+  constructor(library) { this.library = library; }
+
+  /**
+   * So many puzzles, or fewer if there are no more. A link gives the same everywhere.
+   * @param {Asked} asked
+   * @param {(text: string) => void} told hears what it waits for
+   * @returns {Promise<Board[]>}
+   */
+  async draw(asked, count, told) {
+    await this.library.begun;
+    const isGoneOver = asked.level <= HIGHEST_GONE_OVER;
+    const boards = isGoneOver ? await this.#drawn(asked, count, told) : await this.#tried(asked, count, told);
+    if (boards.length === 0) throw new Error(whyNone(asked, isGoneOver));
+    return boards;
+  }
+
+  // ---- levels that are gone over ----
+
+  async #drawn({ seed, level, hardness }, count, told) {
+    const { library } = this;
+    if (library.length <= level) {
+      told(`Building levels to ${level}…`);
+      await library.settled;
+      await library.build(level);
+    }
+    if (library.length <= level) throw new Error(library.notice ?? `Level ${level} is not built yet`);
+    const ranks = await this.#ranks(level, hardness, told);
+    return Promise.all(drawn(ranks, count, seed).map(rank => library.proved.ask("board", level, rank)));
+  }
+
+  /** All puzzles of a level. They are found once. */
+  async #ranks(level, hardness, told) {
+    const name = `${level} ${hardness}`, all = sizeOf(level);
+    if (!this.#found.has(name)) {
+      const tell = done => told(`Looking at level ${level}: ${Math.round(100 * done / all)}%…`);
+      this.#found.set(name, await this.library.proved.askTelling(tell, "puzzles", level, hardness));
+    }
+    return this.#found.get(name);
+  }
+
+  // ---- larger levels ----
+
+  async #tried({ seed, level, hardness }, count, told) {
+    await this.library.hosting;
+    const { shelf, proved } = this.library, ranks = ranksOf(seed, sizeOf(level)), boards = [];
+    if (!shelf.level(level)) throw new Error(shelf.fault(level)?.message ?? `Level ${level} is not here. Build it, or open it`);
+    for (let tried = 0; tried < MOST_TRIED && boards.length < count; tried += TRIED_AT_ONCE) {
+      if (tried > 0) told(`Tried ${tried} boards…`);
+      const some = Array.from({ length: TRIED_AT_ONCE }, () => ranks.next().value);
+      const all = await Promise.all(some.map(rank => proved.ask("board", level, rank)));
+      const fit = await Promise.all(all.map(board => this.#fits(shelf, board, hardness)));
+      boards.push(...all.filter((_, at) => fit[at]));
+    }
+    return boards.slice(0, count);
+  }
+
+  /** Little is asked for: the entry of a board, and those of its moves only if that is far enough. */
+  async #fits(shelf, board, hardness) {
+    if (!mayBePuzzle(board) || !isFar(await shelf.entry(board), hardness)) return false;
+    const { entry, moves, fault } = await weigh(shelf, board), unknown = fault ?? moves.find(move => move.fault)?.fault;
+    if (unknown) throw unknown;
+    return isTrap(entry.value, moves, hardness);
+  }
+
+  // ---- a sheet ----
+
+  /**
+   * A sheet of puzzles, each with what its moves are worth, and its line.
+   * @param {Asked} asked
+   * @param {(text: string) => void} told
+   */
+  async sheet(asked, told) {
+    const boards = await this.draw(asked, BOARDS_OF_A_SHEET, told), { shelf } = this.library;
+    return Promise.all(boards.map(async board =>
+      ({ board, weighed: await weigh(shelf, board), line: await bestLine(shelf, board) })));
+  }
+}
+
+function whyNone({ level, hardness }, isGoneOver) {
+  const [least, most] = pliesOf(hardness), far = most === Infinity ? `${plies(least)} or more` : `${least} to ${plies(most)}`;
+  const which = `with a gain within ${far} that all moves but one throw away by ${plural(marginOf(hardness), "stone")} or more`;
+  const none = isGoneOver ? `Level ${level} has no board` : `Of ${MOST_TRIED} boards of level ${level} there is none`;
+  return `${none} ${which}. Choose more stones, or other plies`;
+}
+return { Puzzler };
+})();
+
+const module_record = (() => {
+// What was set up and played: a list of states, one of which is shown. Nothing here knows of the page.
+
+const { stateAfter, stateOf, statesOf } = module_game;
+const { areSame } = module_rules;
+
+class Record {
+  /** @param {import("./rules.mjs").Board} board */
+  constructor(board) { this.startAt(board); }
+
+  startAt(board) {
+    this.states = [stateOf(board, 0)];
+    this.at = 0;
+  }
+
+  get now() { return this.states[this.at]; }
+  get isFirst() { return this.at === 0; }
+  get isLast() { return this.at === this.states.length - 1; }
+
+  go(index) { this.at = Math.max(0, Math.min(index, this.states.length - 1)); }
+
+  /** Puts a state behind the one that is shown. What was behind that is gone. */
+  add(state) {
+    this.states = [...this.states.slice(0, this.at + 1), state];
+    this.at += 1;
+  }
+
+  play(pit) { this.add(stateAfter(this.now, pit)); }
+
+  setUp(board, mover) {
+    const isShown = areSame(board, this.now.board) && mover === this.now.mover && !this.now.move;
+    if (!isShown) this.add(stateOf(board, mover));
+  }
+
+  /** The state from which the play that is shown began. */
+  get start() {
+    let index = this.at;
+    while (this.states[index].move) index--;
+    return index;
+  }
+
+  /** The last state of that play, which may lie behind the one that is shown. */
+  get end() {
+    let index = this.at;
+    while (this.states[index + 1]?.move) index++;
+    return index;
+  }
+
+  /**
+   * The play that is shown, and how many of its moves led to what is shown.
+   * @returns {import("./game.mjs").Game & { at: number }}
+   */
+  get game() {
+    const { start, at } = this, { board, mover } = this.states[start];
+    const pits = this.states.slice(start + 1, this.end + 1).map(({ move }) => move.pit);
+    return { board, mover, pits, at: at - start };
+  }
+
+  /**
+   * Shows a place of a game: where the record has it, and else in place of all that was there.
+   * @param {import("./game.mjs").Game & { at: number }} game
+   */
+  open(game) {
+    const starts = [this.start, ...this.states.keys()], start = starts.find(index => this.#holds(game, index));
+    if (start === undefined) this.states = statesOf(game);
+    this.at = (start ?? 0) + game.at;
+  }
+
+  /** Whether a game begins at a state, with more moves behind its own or not. */
+  #holds({ board, mover, pits }, index) {
+    const state = this.states[index];
+    return !state.move && state.mover === mover && areSame(state.board, board)
+      && pits.every((pit, ply) => this.states[index + 1 + ply]?.move?.pit === pit);
+  }
+
+  /** Whether the board was there before, with the same side to move and no capture since. */
+  get isRepeated() {
+    const { board, mover } = this.now;
+    for (let index = this.at; this.states[index].move?.captured === 0; index--) {
+      const before = this.states[index - 1];
+      if (before.mover === mover && areSame(before.board, board)) return true;
+    }
+    return false;
+  }
+}
+return { Record };
+})();
+
+const module_solving = (() => {
+// A puzzle that is being solved: what was played right, and what was thrown away. Nothing here knows of the page.
+
+const { costsOf, gainOf } = module_puzzle;
+const { isEnded } = module_rules;
+
+/**
+ * @typedef {import("./game.mjs").State} State
+ * @typedef {import("./worths.mjs").Weighed} Weighed
+ *
+ * @typedef {"open" | "home" | "lost" | "round" | "shown"} Standing still open; the gain is home; a move threw it away;
+ * play went round; or the solution was asked for
+ */
+
+class Solving {
+  /** @type {Standing} */
+  standing = "open";
+  /**
+   * The last right board, and what its moves cost: what the solution is of.
+   * @type {{ state: State, weighed: Weighed, costs: ReturnType<typeof costsOf>, pit: number | null } | null}
+   */
+  decided = null;
+  /**
+   * Where the solution begins, once it is over, and the line from there.
+   * @type {State | null}
+   */
+  from = null;
+  /** @type {import("./worths.mjs").Line | null} */
+  line = null;
+
+  /**
+   * @param {import("./puzzle.mjs").Asked} asked
+   * @param {State} start
+   * @param {boolean} counts whether it counts for the streak: it is tried for the first time
+   */
+  constructor(asked, start, counts) {
+    this.asked = asked;
+    this.start = start;
+    this.counts = counts;
+    /** How many stones there are to gain, null until that is known. */
+    this.value = null;
+    /** How many moves were right. */
+    this.rightMoves = 0;
+  }
+
+  get isOpen() { return this.standing === "open"; }
+  /** How much of the gain is there already. */
+  gained = 0;
+  /** How many stones the wrong move threw away. */
+  get thrown() { return this.decided?.costs.thrown.get(this.decided.pit) ?? 0; }
+
+  /**
+   * Hears what the board is worth that is shown, and its moves.
+   * @param {State} state
+   * @param {Weighed} weighed
+   */
+  weigh(state, weighed) {
+    if (!this.isOpen || state.mover !== 0 || !weighed.entry || weighed.moves.some(({ fault }) => fault)) return;
+    this.value ??= weighed.entry.value;
+    if (weighed.moves.length) this.decided = { state, weighed, costs: costsOf(weighed.entry.value, weighed.moves), pit: null };
+  }
+
+  /** Whether a pit of this board may be judged: what its moves are worth is known. */
+  canJudge(state) { return this.decided?.state === state; }
+
+  /**
+   * Judges what South plays. A move that throws something away ends it.
+   * @param {number} pit
+   */
+  judge(pit) {
+    this.decided.pit = pit;
+    if (this.thrown > 0) this.standing = "lost";
+    else this.rightMoves += 1;
+  }
+
+  /**
+   * Looks whether the gain is home, after a move of either side.
+   * @param {State} state
+   * @param {boolean} isRepeated
+   */
+  settle(state, isRepeated) {
+    if (!this.isOpen) return;
+    this.gained = gainOf(state);
+    if (this.gained >= this.value) this.standing = "home";
+    else if (isRepeated || isEnded(state.board)) this.standing = "round";
+  }
+
+  show() { this.standing = "shown"; }
+}
+return { Solving };
+})();
+
+const module_streak = (() => {
+// How many puzzles were solved one after the other, now and at best. The browser alone keeps it.
+
+const NAME = "awari-explorer.streak";
+
+class Streak {
+  now = 0;
+  best = 0;
+
+  /**
+   * A page may be denied its storage; then the streak lasts as long as the page.
+   * @param {() => Storage} storage
+   */
+  constructor(storage) {
+    try {
+      this.storage = storage();
+      const [now, best] = (this.storage.getItem(NAME) ?? "").split(" ").map(Number);
+      if (now >= 0 && best >= now) Object.assign(this, { now, best });
+    } catch {
+      this.storage = null;
+    }
+  }
+
+  /** @param {boolean} isSolved */
+  add(isSolved) {
+    this.now = isSolved ? this.now + 1 : 0;
+    this.best = Math.max(this.best, this.now);
+    try {
+      this.storage?.setItem(NAME, `${this.now} ${this.best}`);
+    } catch { /* the storage is full */ }
+  }
+
+  get text() { return this.best === 0 ? "" : `Solved in a row: ${this.now}, at best ${this.best}`; }
+}
+return { Streak };
+})();
+
 const module_session = (() => {
 // What the page shows, and what is done to it: boards, play, set-up and levels. Nothing here knows of elements.
 
@@ -2851,9 +3900,13 @@ const { pitName } = module_letters;
 const { Library } = module_library;
 const { parseLink, printLink } = module_links;
 const { Opponent, tableMove } = module_opponent;
+const { parseAsked, printAsked } = module_puzzle;
+const { Puzzler } = module_puzzler;
 const { Record } = module_record;
 const { MOST_STONES, print, randomBoard, refusalOf, stonesOf, turned } = module_rules;
-const { spokenVerdict } = module_verdict;
+const { Solving } = module_solving;
+const { Streak } = module_streak;
+const { spokenVerdict, wordsOfPuzzle } = module_verdict;
 const { plural, SIDES } = module_words;
 const { bestLine, weigh } = module_worths;
 
@@ -2878,6 +3931,8 @@ const { bestLine, weigh } = module_worths;
  * @property {WeakMap<import("./game.mjs").State, import("./game.mjs").Toll | null>} tolls what the moves to states cost
  * @property {boolean} hasHints whether worths are shown
  * @property {boolean} hasLetters whether pits have letters
+ * @property {Solving | null} puzzle the puzzle that is being solved, or was
+ * @property {string} puzzleTold what drawing one waits for, or why there is none
  *
  * @typedef {object} Listener draws what has changed, and tells what is said
  * @property {(shown: Shown) => void} drawState another state is shown, without its worth yet
@@ -2887,6 +3942,8 @@ const { bestLine, weigh } = module_worths;
  * @property {(shown: Shown) => void} drawWork levels are being built or verified, or are not any more
  * @property {(shown: Shown) => void} drawPlaying the line plays itself, or has stopped
  * @property {(shown: Shown) => void} drawPlayed what moves cost has come
+ * @property {(shown: Shown) => void} drawPuzzle a puzzle is drawn, or something came of it
+ * @property {(sheet: { asked: import("./puzzle.mjs").Asked, puzzles: object[] }) => void} showSheet puzzles to be printed
  * @property {(link: string, isStep: boolean) => void} keepLink a step that Back takes back, or the same step otherwise
  * @property {(text: string) => void} say to those who listen
  * @property {(text: string) => void} hint to those who look, for a while
@@ -2904,22 +3961,32 @@ class Session {
   /** What is asked of a board counts only as long as that board is shown. */
   #turn = 0;
   #playTimer;
+  /** The puzzle or the sheet that the address names, until there are levels. */
+  #awaited;
+  /** What is drawn counts only if nothing else was asked for meanwhile. */
+  #draws = 0;
+  /** The sides that the table played before a puzzle. */
+  #sidesBefore = [false, false];
 
   /**
    * @param {(count: number) => import("./proved.mjs").Proved} startProved starts the proved code with so many levels
    * @param {string} address what stands behind the # of the page's address
    * @param {{ setTimeout: Function, clearTimeout: Function }} clock the timers: of the page, or of a test
+   * @param {Streak} streak
    */
-  constructor(startProved, address = FIRST_BOARD, clock = globalThis) {
-    const link = parseLink(address);
+  constructor(startProved, address = FIRST_BOARD, clock = globalThis, streak = new Streak(() => null)) {
+    this.#awaited = parseAsked(address) && address;
+    const link = parseLink(this.#awaited ? FIRST_BOARD : address);
     this.record = new Record(link.board);
     this.opponent = new Opponent(pit => this.#play(pit), clock);
     this.library = new Library(startProved, () => this.#takeLevels(), () => this.listener.drawWork(this.shown));
+    this.puzzler = new Puzzler(this.library);
+    this.streak = streak;
     /** @type {Shown} */
     this.shown = {
       record: this.record, state: this.record.now, weighed: null, line: null, below: 0, keepsMoverBelow: false,
       shelf: this.library.shelf, library: this.library, isEditing: false, isTaking: false, isPlaying: false,
-      opponent: this.opponent, tolls: new WeakMap(), hasHints: true, hasLetters: false,
+      opponent: this.opponent, tolls: new WeakMap(), hasHints: true, hasLetters: false, puzzle: null, puzzleTold: "",
     };
     this.#takeLink(link);
   }
@@ -2929,9 +3996,10 @@ class Session {
   /** Shows the state of the record, at first without its worth, and then with it. Back undoes a step. */
   async show({ isStep = false } = {}) {
     Object.assign(this.shown, { state: this.record.now, weighed: null, line: null });
+    this.#leavePuzzle();
     this.#laySides();
     this.listener.drawState(this.seen);
-    this.listener.keepLink(this.link, isStep);
+    this.listener.keepLink(this.link, isStep && !this.shown.puzzle);
     await this.#weigh();
   }
 
@@ -2941,7 +4009,9 @@ class Session {
     const weighed = await weigh(shown.shelf, shown.state.board).catch(() => null);
     if (mine !== this.#turn || !weighed) return;
     shown.weighed = weighed;
+    shown.puzzle?.weigh(shown.state, weighed);
     this.listener.drawWorth(this.seen);
+    this.listener.drawPuzzle(shown);
     this.#considerReply();
     this.#showLine(mine);
     this.#showTolls();
@@ -2963,9 +4033,11 @@ class Session {
     this.listener.drawPlayed(this.seen);
   }
 
-  /** What is shown, but for what hints would tell. */
+  /** What is shown, but for what hints would tell. An open puzzle has none. */
   get seen() {
-    return this.shown.hasHints ? this.shown : { ...this.shown, weighed: null, line: null, tolls: new WeakMap() };
+    const { hasHints, puzzle } = this.shown;
+    if (hasHints && !puzzle?.isOpen) return this.shown;
+    return { ...this.shown, hasHints: false, weighed: null, line: null, tolls: new WeakMap() };
   }
 
   #laySides() {
@@ -3011,12 +4083,15 @@ class Session {
   }
 
   async #play(pit) {
-    const { mover } = this.record.now, name = this.nameOf(pit);
+    const { mover } = this.record.now, name = this.nameOf(pit), wasOpen = this.#isSolving;
+    if (wasOpen && mover === 0) this.shown.puzzle.judge(pit);
     this.record.play(pit);
     const { captured, isSlam } = this.record.now.move;
+    if (wasOpen) this.#settlePuzzle();
     await this.show({ isStep: true });
     const captures = captured ? `, captured ${captured}` : isSlam ? ", a grand slam, which captures nothing" : "";
-    this.listener.say(`${SIDES[mover]} played pit ${name}${captures}. ${spokenVerdict(this.seen)}`);
+    const told = wasOpen ? wordsOfPuzzle(this.shown) : spokenVerdict(this.seen);
+    this.listener.say(`${SIDES[mover]} played pit ${name}${captures}. ${told}`);
   }
 
   /** What a hand plays, if it may. */
@@ -3026,7 +4101,7 @@ class Session {
     this.stopPlaying();
     if (refused) return this.refuse(refused.message);
     this.opponent.wake();
-    return this.#play(pit);
+    return this.#mayPlay() ? this.#play(pit) : this.refuse("The levels are still being asked");
   }
 
   /** Plays a part of the best line at once. */
@@ -3063,6 +4138,10 @@ class Session {
   // ---- the table plays ----
 
   setTable(south, north) {
+    if (this.#isSolving) {
+      this.listener.drawBoard(this.seen);
+      return this.refuse("The table plays North until the puzzle is over");
+    }
     this.stopPlaying();
     this.opponent.setSides(south, north);
     this.listener.say(`The table plays ${nameOfSides(south, north)}`);
@@ -3093,6 +4172,7 @@ class Session {
   // ---- links and texts ----
 
   get link() {
+    if (this.shown.puzzle) return printAsked(this.shown.puzzle.asked);
     return printLink({ ...this.record.game, below: Number(this.#northIsBelow), table: this.opponent.sides });
   }
 
@@ -3105,6 +4185,8 @@ class Session {
 
   /** Shows what a link says. It throws what is wrong with it. */
   openLink(text) {
+    const named = parseAsked(text);
+    if (named) return named.kind === "sheet" ? this.openSheet(named.asked) : this.openPuzzle(named.asked);
     const link = parseLink(text);
     this.stopPlaying();
     this.#takeLink(link);
@@ -3113,6 +4195,8 @@ class Session {
 
   /** Shows the place of a link by Back or Forward: the rest stays, and the table rests. */
   comeTo(text) {
+    const named = parseAsked(text);
+    if (named) return named.kind === "sheet" ? this.openSheet(named.asked) : this.openPuzzle(named.asked, true);
     const link = parseLink(text);
     this.stopPlaying();
     this.record.open(link);
@@ -3138,6 +4222,114 @@ class Session {
   get gameText() {
     const { record: { game }, shown: { shelf } } = this, stones = stonesOf(game.board);
     return printGame(game, shelf.level(stones) ? shelf.limitTo(stones) : undefined);
+  }
+
+  // ---- puzzles ----
+
+  get #isSolving() { return this.shown.puzzle?.isOpen ?? false; }
+
+  /** Opens the puzzle or the sheet of the address, once there are levels. */
+  openAwaited() { if (this.#awaited) return this.openLink(this.#awaited); }
+
+  /**
+   * Draws a puzzle and shows it: hints are hidden, and the table plays North until it is over.
+   * @param {import("./puzzle.mjs").Asked} asked
+   */
+  async openPuzzle(asked, isAgain = false) {
+    this.stopPlaying();
+    const boards = await this.#draw(told => this.puzzler.draw(asked, 1, told));
+    if (!boards) return;
+    this.#closePuzzle();
+    this.record.setUp(boards[0], 0);
+    this.shown.puzzle = new Solving(asked, this.record.now, !isAgain);
+    this.#sidesBefore = this.opponent.sides;
+    this.opponent.setSides(false, true);
+    this.#northIsBelow = false;
+    this.listener.keepLink(this.link, true);
+    await this.show();
+    this.listener.say(wordsOfPuzzle(this.shown));
+  }
+
+  /** Shows a sheet of puzzles, to be printed. What is shown later takes its place. */
+  async openSheet(asked, isStep = false) {
+    this.stopPlaying();
+    const puzzles = await this.#draw(told => this.puzzler.sheet(asked, told));
+    if (!puzzles) return;
+    this.listener.keepLink(printAsked(asked, "sheet"), isStep);
+    this.listener.showSheet({ asked, puzzles });
+  }
+
+  /** What a draw gives: null if it fails, which is told, or if something else was asked for meanwhile. */
+  async #draw(draw) {
+    const mine = ++this.#draws;
+    const tell = text => {
+      if (mine !== this.#draws) return;
+      this.shown.puzzleTold = text;
+      this.listener.drawPuzzle(this.shown);
+    };
+    tell("A puzzle is drawn…");
+    try {
+      const given = await draw(tell);
+      tell("");
+      return mine === this.#draws ? given : null;
+    } catch (fault) {
+      tell(`${fault.message}.`);
+      this.listener.say(this.shown.puzzleTold);
+      return null;
+    }
+  }
+
+  /** Solves the same puzzle from its start. That does not count. */
+  tryAgain() { if (this.shown.puzzle) return this.openPuzzle(this.shown.puzzle.asked, true); }
+
+  /** Whether a hand may play now: an open puzzle waits until it can judge. One that is over goes. */
+  #mayPlay() {
+    const { puzzle, state } = this.shown;
+    if (!puzzle?.isOpen) this.#closePuzzle();
+    return !puzzle?.isOpen || puzzle.canJudge(state);
+  }
+
+  #settlePuzzle() {
+    this.shown.puzzle.settle(this.record.now, this.record.isRepeated);
+    if (!this.#isSolving) this.#endPuzzle();
+  }
+
+  /** Shows the solution of an open puzzle, which is not solved then. */
+  showSolution() {
+    if (!this.#isSolving) return;
+    this.stopPlaying();
+    this.shown.puzzle.show();
+    this.#endPuzzle();
+    this.#redraw();
+    this.listener.say(wordsOfPuzzle(this.shown));
+  }
+
+  /** The line comes later. Nobody waits for it. */
+  async #endPuzzle() {
+    const { puzzle, shelf } = this.shown, { standing, decided, start } = puzzle;
+    if (puzzle.counts) this.streak.add(standing === "home");
+    puzzle.counts = false;
+    this.opponent.setSides(...this.#sidesBefore);
+    puzzle.from = standing === "home" || !decided ? start : decided.state;
+    puzzle.line = await bestLine(shelf, puzzle.from.board).catch(() => null);
+    this.listener.drawPuzzle(this.shown);
+  }
+
+  /** Plays a part of the line of a puzzle from where that begins. */
+  followSolution(plies) {
+    this.record.go(this.record.states.indexOf(this.shown.puzzle.from));
+    return this.follow(plies);
+  }
+
+  #closePuzzle() {
+    if (this.#isSolving) this.opponent.setSides(...this.#sidesBefore);
+    this.shown.puzzle = null;
+  }
+
+  /** Another board than that of the puzzle leads out of it. */
+  #leavePuzzle() {
+    const { record, shown: { puzzle } } = this;
+    if (puzzle && record.states[record.start] !== puzzle.start) this.#closePuzzle();
   }
 
   // ---- setting up ----
@@ -3204,6 +4396,7 @@ class Session {
   }
 
   setHints(hasHints) {
+    if (hasHints) this.showSolution();
     this.shown.hasHints = hasHints;
     this.#redraw();
     this.listener.say(`Hints are ${hasHints ? "on" : "off"}. ${spokenVerdict(this.seen)}`);
@@ -4134,205 +5327,66 @@ function drawNotice(box, { shelf, notice }) {
 return { drawNotice };
 })();
 
-const module_worth_view = (() => {
-// What the board that is shown is worth: a verdict, the table of moves, the best line, and what was played.
+const module_sheet_view = (() => {
+// A sheet of puzzles to be printed: ten boards, and on the next page their solutions.
 
-const { button, element, refill } = module_elements;
-const { thrownBySides } = module_game;
-const { pitName } = module_letters;
-const { compareMoves } = module_opponent;
-const { endGain, isEnded, legalPits, play } = module_rules;
-const { verdictOf, wordsOfMove, wordsOfToll } = module_verdict;
-const { grouped, kindOf, plies, SIDES, signed } = module_words;
-
-/** More plies of a line than this are counted, and not shown. */
-const MOST_PLIES_SHOWN = 400;
-
-function makeVerdict(shown) {
-  const { state, weighed, hasHints } = shown, hasEnded = isEnded(state.board);
-  const [title, text] = verdictOf(shown);
-  const value = hasEnded ? endGain(state.board) : weighed?.entry?.value;
-  const kind = value === undefined ? "open" : kindOf(value);
-  return element("div", { class: "verdict" },
-    element("div", { class: `value-box ${kind}` },
-      element("span", { id: "value" }, value === undefined ? "?" : signed(value)),
-      element("small", {}, `for ${SIDES[state.mover]}`)),
-    element("div", {},
-      element("b", {}, title),
-      element("p", {}, hasHints || hasEnded ? text && `${text}.` : "Hints are off.")));
-}
-
-// ---- the table of moves ----
-
-function makeMovesTable(shown, hands) {
-  const { state: { board }, weighed, hasHints } = shown;
-  const moves = weighed
-    ? [...weighed.moves].sort(compareMoves)
-    : legalPits(board).map(pit => play(board, pit));
-  const names = ["Move", "Captures", ...(hasHints ? ["Value", "Within"] : [])];
-  const heads = names.map(text => element("th", { scope: "col" }, text));
-  const planHead = element("th", { scope: "col" }, element("span", { class: "unseen" }, "Plan"));
-  return element("table", { id: "moves" },
-    element("caption", { class: "unseen" }, hasHints ? "The legal moves, the best first" : "The legal moves"),
-    element("thead", {}, element("tr", {}, ...heads, hasHints && planHead)),
-    element("tbody", {}, ...moves.map(move => makeMoveRow(move, shown, hands))));
-}
-
-function makeMoveRow(move, { state: { mover }, hasHints, hasLetters }, hands) {
-  const name = pitName(move.pit, mover, hasLetters), label = `Play pit ${name}, ${wordsOfMove(move, hasHints)}`;
-  const playButton = element("button", { type: "button", class: "button", "aria-label": label }, `Pit ${name}`);
-  const slam = element("span", { title: "A grand slam: it would take all, and takes nothing" }, "0 (slam)");
-  const row = element("tr", { "data-pit": move.pit },
-    element("td", {}, playButton),
-    element("td", { class: "captures" }, move.isSlam ? slam : String(move.captured)),
-    ...(hasHints ? makeWorthCells(move) : []));
-  row.addEventListener("click", () => hands.play(move.pit));
-  for (const event of ["pointerenter", "focusin"]) row.addEventListener(event, () => hands.preview(move.pit));
-  for (const event of ["pointerleave", "focusout"]) row.addEventListener(event, () => hands.preview(null));
-  return row;
-}
-
-function makeWorthCells(move) {
-  const isKnown = move.value !== undefined && !move.fault;
-  const value = isKnown
-    ? element("span", { class: `value ${kindOf(move.value)}` }, signed(move.value))
-    : element("span", { class: "soft" }, "?");
-  return [
-    element("td", {}, value),
-    element("td", { class: "within" }, ...(isKnown ? withinOf(move) : [])),
-    element("td", { class: "plan-mark" }, move.isPlan && "plan"),
-  ];
-}
-
-/** The distance. A narrow table has no room for the word behind it. */
-const withinOf = ({ distance }) => distance
-  ? [grouped(distance), element("span", { class: "wide" }, distance === 1 ? " ply" : " plies")]
-  : ["–"];
-
-// ---- what is wrong with it ----
-
-function makeRemarks({ weighed, record }) {
-  const remarks = [], unknown = weighed?.moves.find(move => move.fault);
-  if (weighed?.broken)
-    remarks.push(element("p", { class: "status wrong", role: "alert" },
-      element("b", {}, "The files are wrong here. "),
-      `The entry of this board breaks rule ${weighed.broken} beside those of its moves. See `,
-      element("code", {}, "awari verify FOLDER"), "."));
-  if (weighed?.entry && unknown) remarks.push(element("p", { class: "small bad" }, `${unknown.fault.message}.`));
-  if (record.isRepeated)
-    remarks.push(element("p", { class: "small soft" },
-      "This board was there before. Play that goes on for ever without a capture gains neither side anything."));
-  return remarks;
-}
-
-/** While the entries are being read, what was there before stays, but faint: nothing flickers. */
-function drawWorth(box, shown, hands) {
-  const isWaiting = !shown.weighed && !isEnded(shown.state.board) && shown.hasHints;
-  box.setAttribute("aria-busy", String(!shown.weighed && shown.hasHints));
-  box.classList.toggle("waiting", isWaiting && box.childElementCount > 0);
-  if (isWaiting && box.childElementCount > 0) return;
-  const hasMoves = !isEnded(shown.state.board);
-  refill(box, [makeVerdict(shown), ...(hasMoves ? [makeMovesTable(shown, hands)] : []), ...makeRemarks(shown)]);
-}
-
-/** Whether the proved code says what is shown. */
-function drawStanding(box, { weighed, hasHints }) {
-  if (!weighed && hasHints) return; // what was there before stays, as the worth does
-  box.className = `standing ${weighed?.isProved ? "proved" : ""}`;
-  box.textContent = weighed?.isProved ? "by the proved code" : weighed?.entry ? "not verified" : "";
-}
-
-// ---- plies ----
+const { byId, element } = module_elements;
+const { costsOf, marginOf, pliesOf, printAsked, wordsOf } = module_puzzle;
+const { print } = module_rules;
+const { drawSmallBoard } = module_small_board;
+const { plies, plural } = module_words;
 
 /**
- * A move as a button: its pit, what it captured, and what it threw away.
- * @param {{ pit: number, captured: number }} ply
- * @param {number} mover
- * @param {{ label: string, action: () => void, hasLetters: boolean, toll?: import("./game.mjs").Toll | null }} more
- * @param {{ class?: string, "aria-current"?: string | false }} attributes
+ * @typedef {{ board: import("./rules.mjs").Board, weighed: import("./worths.mjs").Weighed,
+ *   line: import("./worths.mjs").Line }} Printed a puzzle, with what its moves are worth, and its line
  */
-function makePly({ pit, captured }, mover, { label, action, hasLetters, toll }, attributes = {}) {
-  const side = SIDES[mover], name = pitName(pit, mover, hasLetters);
-  const captures = captured ? `, captures ${captured}` : "", cost = toll?.thrown ? `, ${wordsOfToll(toll)}` : "";
-  const all = {
-    ...attributes,
-    class: `${side.toLowerCase()} ${attributes.class ?? ""}`,
-    title: toll && wordsOfToll(toll),
-    "aria-label": `${label}: ${side}, pit ${name}${captures}${cost}`,
-  };
-  return element("li", {}, button(all, action, name,
-    captured > 0 && element("small", {}, `×${captured}`),
-    toll?.thrown > 0 && element("small", { class: "thrown" }, signed(-toll.thrown))));
+
+const NO_MARKS = { ring: () => "", chip: () => "" };
+
+function makeBoard({ board, weighed: { entry } }, index) {
+  const goal = `${index + 1}. South gains ${entry.value}, within ${plies(entry.distance)}`;
+  return element("li", {}, element("figure", { class: "example" },
+    drawSmallBoard(board, `Puzzle ${index + 1}`, NO_MARKS),
+    element("figcaption", {}, element("b", {}, goal), element("span", {}, "Pit: ____"))));
 }
 
-function drawLine(box, shown, hands) {
-  const { line, hasHints, hasLetters } = shown, isWaiting = !line && hasHints;
-  box.setAttribute("aria-busy", String(isWaiting));
-  box.classList.toggle("waiting", isWaiting);
-  if (isWaiting) return;
-  if (!line || line.fault) return box.replaceChildren(element("p", { class: "small soft" }, whyNoLine(shown)));
-  const plyList = line.plies.slice(0, MOST_PLIES_SHOWN);
-  const items = plyList.map((ply, index) => makePly(ply, (shown.state.mover + index) % 2, {
-    label: `Go to ply ${index + 1} of the line`, action: () => hands.follow(plyList.slice(0, index + 1)), hasLetters,
-  }));
-  refill(box, [
-    ...(items.length ? [element("ol", { class: "plies" }, ...items)] : []),
-    element("p", { class: "outcome" }, outcomeText(line, plyList.length, shown.state.mover)),
-    ...makeLineRemarks(line),
-  ]);
+function makeSolution({ board, weighed: { entry, moves }, line }) {
+  const { right, second, greedy, thrown } = costsOf(entry.value, moves);
+  const pits = line.plies.map(({ pit }) => pit).join(" ");
+  return element("li", {},
+    element("b", {}, `Pit ${right[0]}`), ` gains ${entry.value}. `,
+    `Pit ${greedy}, which captures most, throws away ${thrown.get(greedy)}; the second best ${second}. `,
+    element("span", { class: "soft" }, `The line: ${pits}${line.ended ? "." : " …"} `),
+    element("code", {}, print(board)));
 }
 
-function whyNoLine({ line, weighed, hasHints }) {
-  if (!hasHints) return "Hints are off.";
-  return weighed?.fault ? "There is no line without the entry of this board." : `${line.fault.message}.`;
+function wordsOfHardness(hardness) {
+  const [least, most] = pliesOf(hardness), far = most === Infinity ? `${plies(least)} or more` : `${least} to ${plies(most)}`;
+  return `a capture or the end within ${far}; the second best move throws away ${plural(marginOf(hardness), "stone")} or more`;
 }
 
-function outcomeText(line, shownPlies, mover) {
-  const gains = line.outcome === 0 ? "neither side gains"
-    : `${SIDES[line.outcome > 0 ? mover : 1 - mover]} gains ${Math.abs(line.outcome)}`;
-  const hidden = line.plies.length - shownPlies, more = hidden > 0 ? ` (${plies(hidden)} more)` : "";
-  if (line.ended && line.plies.length === 0) return `Play has ended: ${gains}.`;
-  if (line.ended) return `Play ends after ${plies(line.plies.length)}${more}: ${gains}.`;
-  if (line.repeats !== null) return `From ply ${line.repeats + 1} on the play repeats for ever${more}: ${gains}.`;
-  return `No capture comes any more${more}: ${gains}.`;
+/**
+ * @param {{ asked: import("./puzzle.mjs").Asked, puzzles: Printed[] }} sheet
+ */
+function drawSheet({ asked, puzzles }) {
+  const words = wordsOf(asked, puzzles.length);
+  byId("sheet-title").textContent = `${plural(puzzles.length, "puzzle")} of ${plural(asked.level, "stone")}, sheet ${asked.seed}`;
+  byId("sheet-which").textContent = `In each, one pit alone keeps what South gains, and another captures more: ${wordsOfHardness(asked.hardness)}.`;
+  byId("sheet-boards").replaceChildren(...puzzles.map(makeBoard));
+  byId("sheet-solutions").replaceChildren(...puzzles.map(makeSolution));
+  byId("sheet-source").replaceChildren(
+    "This sheet is ", element("code", {}, `#${printAsked(asked, "sheet")}`),
+    ...(words ? [" of the explorer, and ", element("code", {}, words), " prints its boards."] : [" of the explorer."]));
 }
 
-function makeLineRemarks({ outcome, value }) {
-  if (outcome === value) return [];
-  const text = `The plans come to ${signed(outcome)}, and the value is ${signed(value)}: the files are wrong.`;
-  return [element("p", { class: "bad small", role: "alert" }, text)];
+/** Shows the sheet in the place of the page, or the page again. */
+function showSheet(isShown) {
+  if (byId("sheet").hidden !== isShown) return;
+  byId("sheet").hidden = !isShown;
+  byId("page-grid").hidden = isShown;
+  byId(isShown ? "print-sheet" : "sheet-button").focus();
 }
-
-/** The moves of the play that is shown, its score, and what was thrown away. */
-function drawPlayed({ card, list, score, told }, { record, state, tolls, hasLetters }, hands) {
-  const { start, end, at } = record;
-  card.hidden = start === end;
-  const items = record.states.slice(start + 1, end + 1).map((to, offset) => {
-    const index = start + 1 + offset, toll = tolls.get(to);
-    const attributes = { class: index > at ? "later" : "", "aria-current": index === at && "step" };
-    const ply = { label: `Go to ply ${offset + 1}`, action: () => hands.go(index), hasLetters, toll };
-    return makePly(to.move, 1 - to.mover, ply, attributes);
-  });
-  refill(list, items, "[aria-current]");
-  scrollTo(list, list.querySelector("[aria-current]"));
-  score.textContent = `South ${state.captured[0]} : ${state.captured[1]} North`;
-  told.textContent = thrownText(record.states.slice(start, at + 1), tolls, hasLetters);
-}
-
-/** Scrolls a list, and not the page, so that an element is in its middle. */
-function scrollTo(list, element) {
-  if (element) list.scrollTop = element.offsetTop - list.offsetTop - list.clientHeight / 2;
-}
-
-/** What the last of these moves cost, and what both sides threw away by all of them. */
-function thrownText(states, tolls, hasLetters) {
-  const { move, mover } = states.at(-1), toll = tolls.get(states.at(-1));
-  if (!move || !toll) return "";
-  const last = `${SIDES[1 - mover]}’s pit ${pitName(move.pit, 1 - mover, hasLetters)} ${wordsOfToll(toll)}.`;
-  const [south, north] = thrownBySides(states, states.slice(1).map(state => tolls.get(state) ?? null));
-  return south + north === 0 ? last : `${last} In all South threw away ${south} and North ${north}.`;
-}
-return { drawWorth, drawStanding, drawLine, drawPlayed };
+return { drawSheet, showSheet };
 })();
 
 const module_views = (() => {
@@ -4344,7 +5398,9 @@ const { byId, element, icon, turnOff } = module_elements;
 const { LevelsView } = module_levels_view;
 const { MoreView } = module_more_view;
 const { drawNotice } = module_notice_view;
+const { PuzzleView } = module_puzzle_view;
 const { print, stonesOf } = module_rules;
+const { drawSheet, showSheet } = module_sheet_view;
 const { drawLine, drawPlayed, drawStanding, drawWorth } = module_worth_view;
 
 /** @typedef {import("./session.mjs").Shown} Shown */
@@ -4378,6 +5434,8 @@ class Views {
       say: text => this.say(text),
     });
     this.more = new MoreView();
+    this.puzzle = new PuzzleView({ follow: plies => session.followSolution(plies) });
+    this.streak = session.streak;
     this.moveHands = { play: pit => session.play(pit), preview: pit => this.board.preview(pit) };
     this.lineHands = { follow: plies => session.follow(plies) };
     this.playedHands = { go: index => session.go(index) };
@@ -4405,11 +5463,13 @@ class Views {
 
   /** @param {Shown} shown */
   drawState(shown) {
+    showSheet(false);
     this.levels.forget();
     this.board.draw(shown);
     this.#drawWorthAndLine(shown);
     this.drawPlayed(shown);
     this.levels.draw(stonesOf(shown.state.board));
+    this.drawPuzzle(shown);
     this.#drawWord(print(shown.state.board));
   }
 
@@ -4465,6 +5525,15 @@ class Views {
   }
 
   /** @param {Shown} shown */
+  drawPuzzle(shown) { this.puzzle.draw(shown, this.streak); }
+
+  showSheet(sheet) {
+    drawSheet(sheet);
+    showSheet(true);
+    this.say(byId("sheet-title").textContent);
+  }
+
+  /** @param {Shown} shown */
   drawLevels(shown) {
     this.levels.update(shown.shelf);
     this.more.draw(shown.library);
@@ -4495,16 +5564,18 @@ const { hostedFolder } = module_hosted;
 const { Proved } = module_proved;
 const { drawExamples } = module_rules_view;
 const { Session } = module_session;
+const { Streak } = module_streak;
 const { Views } = module_views;
 
 const startProved = count => new Proved(count);
+const streak = new Streak(() => localStorage);
 
 /** The session of the address. One that is wrong is told, and the first board is shown. */
 function begin() {
   try {
-    return { session: new Session(startProved, readAddress() || undefined), fault: null };
+    return { session: new Session(startProved, readAddress() || undefined, globalThis, streak), fault: null };
   } catch (fault) {
-    return { session: new Session(startProved), fault };
+    return { session: new Session(startProved, undefined, globalThis, streak), fault };
   }
 }
 
@@ -4518,7 +5589,10 @@ session.show();
 if (fault) views.hint(fault.message);
 
 const hosted = hostedFolder(location);
-session.library.begin().then(() => hosted && session.library.host(hosted));
+session.library.begin().then(() => {
+  if (hosted) session.library.host(hosted);
+  session.openAwaited();
+});
 return {  };
 })();
 

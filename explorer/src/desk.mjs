@@ -2,11 +2,14 @@
 // What is asked of the proved code, in its thread. Nothing here knows of threads or of the page.
 
 import { Levels } from "../../bindings/awari.mjs";
+import { isFar, isTrap } from "./puzzle.mjs";
 
 /** @typedef {import("../../bindings/awari.mjs").Board} Board */
 
 /** The thread works so long before it gives way. */
 const MILLISECONDS_OF_WORK = 40;
+/** So many boards are gone over before it gives way. */
+const BOARDS_OF_A_SLICE = 8192;
 
 const bytesOfText = text => Uint8Array.from(atob(text), character => character.charCodeAt(0));
 
@@ -52,6 +55,35 @@ export class Desk {
   }
 
   stop() { this.#isStopped = true; }
+
+  /**
+   * Goes over a level, and gives way now and then: the ranks of its boards that are puzzles of this hardness.
+   * @param {number} level
+   * @param {number} hardness
+   * @param {(boards: number) => void} told hears how many boards are done
+   */
+  async puzzles(level, hardness, told) {
+    const ranks = [], boards = this.#levels.size(level);
+    for (let rank = 0; rank < boards; rank += BOARDS_OF_A_SLICE) {
+      ranks.push(...this.#puzzlesIn(level, rank, Math.min(boards, rank + BOARDS_OF_A_SLICE), hardness));
+      told(rank);
+      await new Promise(next => setTimeout(next));
+    }
+    return ranks;
+  }
+
+  #puzzlesIn(level, from, to, hardness) {
+    const ranks = [];
+    for (let rank = from; rank < to; rank++) if (this.#isPuzzle(this.#levels.board(level, rank), hardness)) ranks.push(rank);
+    return ranks;
+  }
+
+  #isPuzzle(board, hardness) {
+    const entry = this.#levels.entry(board);
+    if (!isFar(entry, hardness)) return false;
+    const moves = this.#levels.moves(board).map(({ pit, captures, value }) => ({ pit, captured: captures, value }));
+    return isTrap(entry.value, moves, hardness);
+  }
 
   /**
    * Verifies a file, and puts its level on.

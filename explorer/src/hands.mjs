@@ -4,6 +4,7 @@
 import { onAddress } from "./address.mjs";
 import { byId, element, isOff } from "./elements.mjs";
 import { filesOfDrop, filesOfInput } from "./files.mjs";
+import { askedOfFields } from "./puzzle_view.mjs";
 
 /**
  * @typedef {import("./session.mjs").Session} Session
@@ -14,7 +15,7 @@ import { filesOfDrop, filesOfInput } from "./files.mjs";
 const MILLISECONDS_OF_A_DOWNLOAD = 60_000;
 const MILLISECONDS_BETWEEN_DOWNLOADS = 200;
 const KEYS = {
-  b: "best", p: "auto", u: "undo", r: "redo", t: "turn", s: "swap", e: "edit", h: "hints", l: "letters",
+  n: "puzzle", b: "best", p: "auto", u: "undo", r: "redo", t: "turn", s: "swap", e: "edit", h: "hints", l: "letters",
 };
 
 const isField = target => /^(INPUT|TEXTAREA|SELECT)$/.test(target.tagName) && target.type !== "checkbox";
@@ -50,6 +51,12 @@ function actionsOf(session, views) {
     takes: () => session.setTaking(true),
     clear: () => session.clear(),
     random: () => session.setRandomBoard(Number(byId("random-stones").value)),
+    puzzle: () => session.openPuzzle(askedOfFields()),
+    solution: () => session.showSolution(),
+    again: () => session.tryAgain(),
+    "sheet-button": () => session.openSheet(askedOfFields(), true),
+    "print-sheet": () => print(),
+    "close-sheet": () => session.show({ isStep: true }),
     copy: () => copy(session.word, "The board", views),
     "copy-game": () => copy(session.gameText, "The game", views),
     "copy-link": () => copy(location.href, "The link", views),

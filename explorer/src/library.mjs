@@ -50,9 +50,15 @@ export class Library {
    * @type {Proved | null}
    */
   #trial = null;
-  /** Come once the first levels are there, and those that the browser has kept. */
+  /** Comes once the first levels are there. */
   #first = Promise.resolve();
-  #begun = Promise.resolve();
+  /** Comes once those are there, too, that the browser has kept. */
+  begun = Promise.resolve();
+  /**
+   * Comes once the levels of the page's server are there.
+   * @type {Promise<void>}
+   */
+  hosting = Promise.resolve();
   /** Whether a hand has stopped the build, which may be between two levels. */
   #isStopped = false;
   /** Files are kept one after the other, and nobody waits for it. */
@@ -97,8 +103,8 @@ export class Library {
   /** Takes the first levels, and then those that the browser has kept. */
   async begin() {
     this.#first = this.#takeFirst();
-    this.#begun = this.#first.then(() => this.#takeKept());
-    await this.#begun;
+    this.begun = this.#first.then(() => this.#takeKept());
+    await this.begun;
   }
 
   async #takeFirst() {
@@ -171,7 +177,7 @@ export class Library {
 
   /** Builds the levels that are missing up to this one, in slices, and keeps their files. */
   async build(top) {
-    await this.#begun;
+    await this.begun;
     if (this.work) return;
     const { proved } = this, first = this.length, tell = this.#teller("build", "Building", first, top);
     this.notice = null;
@@ -297,7 +303,12 @@ export class Library {
    * Takes the levels of a folder of the page's own server, above those that are there, each as it comes.
    * @param {import("./hosted.mjs").Hosted} hosted
    */
-  async host(hosted) {
+  host(hosted) {
+    this.hosting = this.#host(hosted);
+    return this.hosting;
+  }
+
+  async #host(hosted) {
     const { folder, isAsked } = hosted, first = this.length;
     if (folder.origin !== location.origin)
       return this.#tell(`Levels are read from this server alone, and not from ${folder.origin}.`);

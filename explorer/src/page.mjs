@@ -8,16 +8,18 @@ import { hostedFolder } from "./hosted.mjs";
 import { Proved } from "./proved.mjs";
 import { drawExamples } from "./rules_view.mjs";
 import { Session } from "./session.mjs";
+import { Streak } from "./streak.mjs";
 import { Views } from "./views.mjs";
 
 const startProved = count => new Proved(count);
+const streak = new Streak(() => localStorage);
 
 /** The session of the address. One that is wrong is told, and the first board is shown. */
 function begin() {
   try {
-    return { session: new Session(startProved, readAddress() || undefined), fault: null };
+    return { session: new Session(startProved, readAddress() || undefined, globalThis, streak), fault: null };
   } catch (fault) {
-    return { session: new Session(startProved), fault };
+    return { session: new Session(startProved, undefined, globalThis, streak), fault };
   }
 }
 
@@ -31,4 +33,7 @@ session.show();
 if (fault) views.hint(fault.message);
 
 const hosted = hostedFolder(location);
-session.library.begin().then(() => hosted && session.library.host(hosted));
+session.library.begin().then(() => {
+  if (hosted) session.library.host(hosted);
+  session.openAwaited();
+});

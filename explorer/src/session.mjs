@@ -6,9 +6,13 @@ import { pitName } from "./letters.mjs";
 import { Library } from "./library.mjs";
 import { parseLink, printLink } from "./links.mjs";
 import { Opponent, tableMove } from "./opponent.mjs";
+import { parseAsked, printAsked } from "./puzzle.mjs";
+import { Puzzler } from "./puzzler.mjs";
 import { Record } from "./record.mjs";
 import { MOST_STONES, print, randomBoard, refusalOf, stonesOf, turned } from "./rules.mjs";
-import { spokenVerdict } from "./verdict.mjs";
+import { Solving } from "./solving.mjs";
+import { Streak } from "./streak.mjs";
+import { spokenVerdict, wordsOfPuzzle } from "./verdict.mjs";
 import { plural, SIDES } from "./words.mjs";
 import { bestLine, weigh } from "./worths.mjs";
 
@@ -33,6 +37,8 @@ import { bestLine, weigh } from "./worths.mjs";
  * @property {WeakMap<import("./game.mjs").State, import("./game.mjs").Toll | null>} tolls what the moves to states cost
  * @property {boolean} hasHints whether worths are shown
  * @property {boolean} hasLetters whether pits have letters
+ * @property {Solving | null} puzzle the puzzle that is being solved, or was
+ * @property {string} puzzleTold what drawing one waits for, or why there is none
  *
  * @typedef {object} Listener draws what has changed, and tells what is said
  * @property {(shown: Shown) => void} drawState another state is shown, without its worth yet
@@ -42,6 +48,8 @@ import { bestLine, weigh } from "./worths.mjs";
  * @property {(shown: Shown) => void} drawWork levels are being built or verified, or are not any more
  * @property {(shown: Shown) => void} drawPlaying the line plays itself, or has stopped
  * @property {(shown: Shown) => void} drawPlayed what moves cost has come
+ * @property {(shown: Shown) => void} drawPuzzle a puzzle is drawn, or something came of it
+ * @property {(sheet: { asked: import("./puzzle.mjs").Asked, puzzles: object[] }) => void} showSheet puzzles to be printed
  * @property {(link: string, isStep: boolean) => void} keepLink a step that Back takes back, or the same step otherwise
  * @property {(text: string) => void} say to those who listen
  * @property {(text: string) => void} hint to those who look, for a while
@@ -59,22 +67,32 @@ export class Session {
   /** What is asked of a board counts only as long as that board is shown. */
   #turn = 0;
   #playTimer;
+  /** The puzzle or the sheet that the address names, until there are levels. */
+  #awaited;
+  /** What is drawn counts only if nothing else was asked for meanwhile. */
+  #draws = 0;
+  /** The sides that the table played before a puzzle. */
+  #sidesBefore = [false, false];
 
   /**
    * @param {(count: number) => import("./proved.mjs").Proved} startProved starts the proved code with so many levels
    * @param {string} address what stands behind the # of the page's address
    * @param {{ setTimeout: Function, clearTimeout: Function }} clock the timers: of the page, or of a test
+   * @param {Streak} streak
    */
-  constructor(startProved, address = FIRST_BOARD, clock = globalThis) {
-    const link = parseLink(address);
+  constructor(startProved, address = FIRST_BOARD, clock = globalThis, streak = new Streak(() => null)) {
+    this.#awaited = parseAsked(address) && address;
+    const link = parseLink(this.#awaited ? FIRST_BOARD : address);
     this.record = new Record(link.board);
     this.opponent = new Opponent(pit => this.#play(pit), clock);
     this.library = new Library(startProved, () => this.#takeLevels(), () => this.listener.drawWork(this.shown));
+    this.puzzler = new Puzzler(this.library);
+    this.streak = streak;
     /** @type {Shown} */
     this.shown = {
       record: this.record, state: this.record.now, weighed: null, line: null, below: 0, keepsMoverBelow: false,
       shelf: this.library.shelf, library: this.library, isEditing: false, isTaking: false, isPlaying: false,
-      opponent: this.opponent, tolls: new WeakMap(), hasHints: true, hasLetters: false,
+      opponent: this.opponent, tolls: new WeakMap(), hasHints: true, hasLetters: false, puzzle: null, puzzleTold: "",
     };
     this.#takeLink(link);
   }
@@ -84,9 +102,10 @@ export class Session {
   /** Shows the state of the record, at first without its worth, and then with it. Back undoes a step. */
   async show({ isStep = false } = {}) {
     Object.assign(this.shown, { state: this.record.now, weighed: null, line: null });
+    this.#leavePuzzle();
     this.#laySides();
     this.listener.drawState(this.seen);
-    this.listener.keepLink(this.link, isStep);
+    this.listener.keepLink(this.link, isStep && !this.shown.puzzle);
     await this.#weigh();
   }
 
@@ -96,7 +115,9 @@ export class Session {
     const weighed = await weigh(shown.shelf, shown.state.board).catch(() => null);
     if (mine !== this.#turn || !weighed) return;
     shown.weighed = weighed;
+    shown.puzzle?.weigh(shown.state, weighed);
     this.listener.drawWorth(this.seen);
+    this.listener.drawPuzzle(shown);
     this.#considerReply();
     this.#showLine(mine);
     this.#showTolls();
@@ -118,9 +139,11 @@ export class Session {
     this.listener.drawPlayed(this.seen);
   }
 
-  /** What is shown, but for what hints would tell. */
+  /** What is shown, but for what hints would tell. An open puzzle has none. */
   get seen() {
-    return this.shown.hasHints ? this.shown : { ...this.shown, weighed: null, line: null, tolls: new WeakMap() };
+    const { hasHints, puzzle } = this.shown;
+    if (hasHints && !puzzle?.isOpen) return this.shown;
+    return { ...this.shown, hasHints: false, weighed: null, line: null, tolls: new WeakMap() };
   }
 
   #laySides() {
@@ -166,12 +189,15 @@ export class Session {
   }
 
   async #play(pit) {
-    const { mover } = this.record.now, name = this.nameOf(pit);
+    const { mover } = this.record.now, name = this.nameOf(pit), wasOpen = this.#isSolving;
+    if (wasOpen && mover === 0) this.shown.puzzle.judge(pit);
     this.record.play(pit);
     const { captured, isSlam } = this.record.now.move;
+    if (wasOpen) this.#settlePuzzle();
     await this.show({ isStep: true });
     const captures = captured ? `, captured ${captured}` : isSlam ? ", a grand slam, which captures nothing" : "";
-    this.listener.say(`${SIDES[mover]} played pit ${name}${captures}. ${spokenVerdict(this.seen)}`);
+    const told = wasOpen ? wordsOfPuzzle(this.shown) : spokenVerdict(this.seen);
+    this.listener.say(`${SIDES[mover]} played pit ${name}${captures}. ${told}`);
   }
 
   /** What a hand plays, if it may. */
@@ -181,7 +207,7 @@ export class Session {
     this.stopPlaying();
     if (refused) return this.refuse(refused.message);
     this.opponent.wake();
-    return this.#play(pit);
+    return this.#mayPlay() ? this.#play(pit) : this.refuse("The levels are still being asked");
   }
 
   /** Plays a part of the best line at once. */
@@ -218,6 +244,10 @@ export class Session {
   // ---- the table plays ----
 
   setTable(south, north) {
+    if (this.#isSolving) {
+      this.listener.drawBoard(this.seen);
+      return this.refuse("The table plays North until the puzzle is over");
+    }
     this.stopPlaying();
     this.opponent.setSides(south, north);
     this.listener.say(`The table plays ${nameOfSides(south, north)}`);
@@ -248,6 +278,7 @@ export class Session {
   // ---- links and texts ----
 
   get link() {
+    if (this.shown.puzzle) return printAsked(this.shown.puzzle.asked);
     return printLink({ ...this.record.game, below: Number(this.#northIsBelow), table: this.opponent.sides });
   }
 
@@ -260,6 +291,8 @@ export class Session {
 
   /** Shows what a link says. It throws what is wrong with it. */
   openLink(text) {
+    const named = parseAsked(text);
+    if (named) return named.kind === "sheet" ? this.openSheet(named.asked) : this.openPuzzle(named.asked);
     const link = parseLink(text);
     this.stopPlaying();
     this.#takeLink(link);
@@ -268,6 +301,8 @@ export class Session {
 
   /** Shows the place of a link by Back or Forward: the rest stays, and the table rests. */
   comeTo(text) {
+    const named = parseAsked(text);
+    if (named) return named.kind === "sheet" ? this.openSheet(named.asked) : this.openPuzzle(named.asked, true);
     const link = parseLink(text);
     this.stopPlaying();
     this.record.open(link);
@@ -293,6 +328,114 @@ export class Session {
   get gameText() {
     const { record: { game }, shown: { shelf } } = this, stones = stonesOf(game.board);
     return printGame(game, shelf.level(stones) ? shelf.limitTo(stones) : undefined);
+  }
+
+  // ---- puzzles ----
+
+  get #isSolving() { return this.shown.puzzle?.isOpen ?? false; }
+
+  /** Opens the puzzle or the sheet of the address, once there are levels. */
+  openAwaited() { if (this.#awaited) return this.openLink(this.#awaited); }
+
+  /**
+   * Draws a puzzle and shows it: hints are hidden, and the table plays North until it is over.
+   * @param {import("./puzzle.mjs").Asked} asked
+   */
+  async openPuzzle(asked, isAgain = false) {
+    this.stopPlaying();
+    const boards = await this.#draw(told => this.puzzler.draw(asked, 1, told));
+    if (!boards) return;
+    this.#closePuzzle();
+    this.record.setUp(boards[0], 0);
+    this.shown.puzzle = new Solving(asked, this.record.now, !isAgain);
+    this.#sidesBefore = this.opponent.sides;
+    this.opponent.setSides(false, true);
+    this.#northIsBelow = false;
+    this.listener.keepLink(this.link, true);
+    await this.show();
+    this.listener.say(wordsOfPuzzle(this.shown));
+  }
+
+  /** Shows a sheet of puzzles, to be printed. What is shown later takes its place. */
+  async openSheet(asked, isStep = false) {
+    this.stopPlaying();
+    const puzzles = await this.#draw(told => this.puzzler.sheet(asked, told));
+    if (!puzzles) return;
+    this.listener.keepLink(printAsked(asked, "sheet"), isStep);
+    this.listener.showSheet({ asked, puzzles });
+  }
+
+  /** What a draw gives: null if it fails, which is told, or if something else was asked for meanwhile. */
+  async #draw(draw) {
+    const mine = ++this.#draws;
+    const tell = text => {
+      if (mine !== this.#draws) return;
+      this.shown.puzzleTold = text;
+      this.listener.drawPuzzle(this.shown);
+    };
+    tell("A puzzle is drawn…");
+    try {
+      const given = await draw(tell);
+      tell("");
+      return mine === this.#draws ? given : null;
+    } catch (fault) {
+      tell(`${fault.message}.`);
+      this.listener.say(this.shown.puzzleTold);
+      return null;
+    }
+  }
+
+  /** Solves the same puzzle from its start. That does not count. */
+  tryAgain() { if (this.shown.puzzle) return this.openPuzzle(this.shown.puzzle.asked, true); }
+
+  /** Whether a hand may play now: an open puzzle waits until it can judge. One that is over goes. */
+  #mayPlay() {
+    const { puzzle, state } = this.shown;
+    if (!puzzle?.isOpen) this.#closePuzzle();
+    return !puzzle?.isOpen || puzzle.canJudge(state);
+  }
+
+  #settlePuzzle() {
+    this.shown.puzzle.settle(this.record.now, this.record.isRepeated);
+    if (!this.#isSolving) this.#endPuzzle();
+  }
+
+  /** Shows the solution of an open puzzle, which is not solved then. */
+  showSolution() {
+    if (!this.#isSolving) return;
+    this.stopPlaying();
+    this.shown.puzzle.show();
+    this.#endPuzzle();
+    this.#redraw();
+    this.listener.say(wordsOfPuzzle(this.shown));
+  }
+
+  /** The line comes later. Nobody waits for it. */
+  async #endPuzzle() {
+    const { puzzle, shelf } = this.shown, { standing, decided, start } = puzzle;
+    if (puzzle.counts) this.streak.add(standing === "home");
+    puzzle.counts = false;
+    this.opponent.setSides(...this.#sidesBefore);
+    puzzle.from = standing === "home" || !decided ? start : decided.state;
+    puzzle.line = await bestLine(shelf, puzzle.from.board).catch(() => null);
+    this.listener.drawPuzzle(this.shown);
+  }
+
+  /** Plays a part of the line of a puzzle from where that begins. */
+  followSolution(plies) {
+    this.record.go(this.record.states.indexOf(this.shown.puzzle.from));
+    return this.follow(plies);
+  }
+
+  #closePuzzle() {
+    if (this.#isSolving) this.opponent.setSides(...this.#sidesBefore);
+    this.shown.puzzle = null;
+  }
+
+  /** Another board than that of the puzzle leads out of it. */
+  #leavePuzzle() {
+    const { record, shown: { puzzle } } = this;
+    if (puzzle && record.states[record.start] !== puzzle.start) this.#closePuzzle();
   }
 
   // ---- setting up ----
@@ -359,6 +502,7 @@ export class Session {
   }
 
   setHints(hasHints) {
+    if (hasHints) this.showSolution();
     this.shown.hasHints = hasHints;
     this.#redraw();
     this.listener.say(`Hints are ${hasHints ? "on" : "off"}. ${spokenVerdict(this.seen)}`);

@@ -2,6 +2,7 @@
 // What boards and moves are worth, in words.
 
 import { endGain, isEnded, stonesOf } from "./rules.mjs";
+import { pitName } from "./letters.mjs";
 import { plies, plural, SIDES, signed, spoken } from "./words.mjs";
 
 const endsAhead = (lead, side) =>
@@ -49,4 +50,30 @@ export function wordsOfMove(move, hasHints) {
     ...(move.distance ? [`within ${plies(move.distance)}`] : []),
     ...(move.isPlan ? ["the plan"] : []),
   ].join(", ");
+}
+
+// ---- puzzles ----
+
+/** What there is to do in a puzzle, or what came of it. South solves it. */
+export function wordsOfPuzzle({ puzzle, hasLetters }) {
+  const { standing, value, gained, rightMoves, decided } = puzzle;
+  if (value === null) return "The levels are being asked.";
+  if (standing === "home") return `Solved: South has gained ${plural(gained, "stone")}, and threw nothing away.`;
+  if (standing === "round") return `This board was there before, so play goes round: ${gained} of ${value} are home.`;
+  if (standing === "lost") return wordsOfLoss(decided, hasLetters);
+  if (standing === "shown") return `Not solved. ${rightPits(decided, hasLetters)}`;
+  if (rightMoves > 0) return `Right so far: ${gained} of ${value} are home. South to move.`;
+  const { distance } = decided.weighed.entry;
+  return `South gains ${value} by one move alone, and another captures more. A capture or the end comes within ${plies(distance)}.`;
+}
+
+function wordsOfLoss({ weighed, costs, pit }, hasLetters) {
+  const before = weighed.entry.value, thrown = costs.thrown.get(pit);
+  const toll = wordsOfToll({ before, after: before - thrown, thrown });
+  return `Pit ${pitName(pit, 0, hasLetters)} ${toll}. ${rightPits({ costs }, hasLetters)}`;
+}
+
+function rightPits({ costs: { right } }, hasLetters) {
+  const names = right.map(pit => pitName(pit, 0, hasLetters));
+  return names.length === 1 ? `Right is pit ${names[0]}.` : `Right are pits ${names.join(", ")}.`;
 }

@@ -7,7 +7,9 @@ import { byId, element, icon, turnOff } from "./elements.mjs";
 import { LevelsView } from "./levels_view.mjs";
 import { MoreView } from "./more_view.mjs";
 import { drawNotice } from "./notice_view.mjs";
+import { PuzzleView } from "./puzzle_view.mjs";
 import { print, stonesOf } from "./rules.mjs";
+import { drawSheet, showSheet } from "./sheet_view.mjs";
 import { drawLine, drawPlayed, drawStanding, drawWorth } from "./worth_view.mjs";
 
 /** @typedef {import("./session.mjs").Shown} Shown */
@@ -41,6 +43,8 @@ export class Views {
       say: text => this.say(text),
     });
     this.more = new MoreView();
+    this.puzzle = new PuzzleView({ follow: plies => session.followSolution(plies) });
+    this.streak = session.streak;
     this.moveHands = { play: pit => session.play(pit), preview: pit => this.board.preview(pit) };
     this.lineHands = { follow: plies => session.follow(plies) };
     this.playedHands = { go: index => session.go(index) };
@@ -68,11 +72,13 @@ export class Views {
 
   /** @param {Shown} shown */
   drawState(shown) {
+    showSheet(false);
     this.levels.forget();
     this.board.draw(shown);
     this.#drawWorthAndLine(shown);
     this.drawPlayed(shown);
     this.levels.draw(stonesOf(shown.state.board));
+    this.drawPuzzle(shown);
     this.#drawWord(print(shown.state.board));
   }
 
@@ -125,6 +131,15 @@ export class Views {
     byId("word").value = word;
     byId("word").removeAttribute("aria-invalid");
     byId("word-fault").hidden = true;
+  }
+
+  /** @param {Shown} shown */
+  drawPuzzle(shown) { this.puzzle.draw(shown, this.streak); }
+
+  showSheet(sheet) {
+    drawSheet(sheet);
+    showSheet(true);
+    this.say(byId("sheet-title").textContent);
   }
 
   /** @param {Shown} shown */

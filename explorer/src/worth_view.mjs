@@ -136,14 +136,22 @@ export function drawLine(box, shown, hands) {
   if (isWaiting) return;
   if (!line || line.fault) return box.replaceChildren(element("p", { class: "small soft" }, whyNoLine(shown)));
   const plyList = line.plies.slice(0, MOST_PLIES_SHOWN);
-  const items = plyList.map((ply, index) => makePly(ply, (shown.state.mover + index) % 2, {
-    label: `Go to ply ${index + 1} of the line`, action: () => hands.follow(plyList.slice(0, index + 1)), hasLetters,
-  }));
   refill(box, [
-    ...(items.length ? [element("ol", { class: "plies" }, ...items)] : []),
+    ...(plyList.length ? [makePlies(plyList, { mover: shown.state.mover, hasLetters, follow: hands.follow })] : []),
     element("p", { class: "outcome" }, outcomeText(line, plyList.length, shown.state.mover)),
     ...makeLineRemarks(line),
   ]);
+}
+
+/**
+ * The plies of a line, which this side begins. Each goes to where it leads.
+ * @param {{ pit: number, captured: number }[]} list
+ * @param {{ mover: number, hasLetters: boolean, follow: (plies: object[]) => void }} how
+ */
+export function makePlies(list, { mover, hasLetters, follow }) {
+  return element("ol", { class: "plies" }, ...list.map((ply, index) => makePly(ply, (mover + index) % 2, {
+    label: `Go to ply ${index + 1} of the line`, action: () => follow(list.slice(0, index + 1)), hasLetters,
+  })));
 }
 
 function whyNoLine({ line, weighed, hasHints }) {

@@ -19,6 +19,7 @@ import files
 import hosted
 import looks
 import playing
+import puzzling
 from driven import FIRST, TALLY, Page, check, end_section, pits_of, random_board, run, signed, unsigned, until
 from selenium.webdriver.common.action_chains import ActionChains
 from selenium.webdriver.common.keys import Keys
@@ -389,6 +390,7 @@ def test_page(given, made):
         words(page)
         line_plays_itself(page)
         playing.play(page, awari, folder)
+        puzzling.puzzles(page, awari, folder)
         page.begin()
         page.open(folder)
         levels_agree(page, awari)

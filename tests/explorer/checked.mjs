@@ -8,6 +8,7 @@ import { spawnSync } from "node:child_process";
 import { readFileSync, readdirSync } from "node:fs";
 import { join } from "node:path";
 import { Desk } from "../../explorer/src/desk.mjs";
+import { Session } from "../../explorer/src/session.mjs";
 
 export const [awari, folder] = process.argv.slice(2);
 if (!folder) {
@@ -79,4 +80,30 @@ export class Proved {
   }
 
   end() { this.isEnded = true; }
+}
+
+/** A session, what it said and where it led, and a clock that rings when it is told to. */
+export function sessionAt(address, streak = undefined) {
+  const told = { said: "", links: [], steps: 0, sheet: null }, due = new Map();
+  let timers = 0;
+  const session = new Session(count => new Proved(count), address, {
+    setTimeout: call => due.set(++timers, call) && timers,
+    clearTimeout: timer => due.delete(timer),
+  }, streak);
+  session.listener = listenerOf({
+    say: text => { told.said = text; },
+    showSheet: sheet => { told.sheet = sheet; },
+    keepLink: (link, isStep) => {
+      told.links.push(link);
+      told.steps += Number(isStep);
+    },
+  });
+  const settled = () => new Promise(done => { setTimeout(done, 20); });
+  const ring = async () => {
+    const calls = [...due.values()];
+    due.clear();
+    for (const call of calls) await call();
+    await settled();
+  };
+  return { session, told, ring, settled };
 }

@@ -12,8 +12,7 @@ import { parseLink, printLink } from "../../explorer/src/links.mjs";
 import { compareMoves, Opponent, tableMove } from "../../explorer/src/opponent.mjs";
 import { Record } from "../../explorer/src/record.mjs";
 import { endGain, isEnded, legalPits, parse, print, randomBoard } from "../../explorer/src/rules.mjs";
-import { Session } from "../../explorer/src/session.mjs";
-import { awari, below, end, expect, folder, listenerOf, module, Proved, run, section } from "./checked.mjs";
+import { awari, below, end, expect, folder, module, run, section, sessionAt } from "./checked.mjs";
 
 const HIGHEST = 10;
 const FIRST = "1,0,0,0,0,1/1,0,1,0,0,0";
@@ -259,31 +258,6 @@ await section("a record that opens games", () => {
   record.open({ ...game, pits: [5], at: 0, mover: 1 });
   expect("so does the other side's", [record.game.mover, shown()], [1, [0, 2, "5", 0]]);
 });
-
-/** A session, what it said and where it led, and a clock that rings when it is told to. */
-function sessionAt(address) {
-  const told = { said: "", links: [], steps: 0 }, due = new Map();
-  let timers = 0;
-  const session = new Session(count => new Proved(count), address, {
-    setTimeout: call => due.set(++timers, call) && timers,
-    clearTimeout: timer => due.delete(timer),
-  });
-  session.listener = listenerOf({
-    say: text => { told.said = text; },
-    keepLink: (link, isStep) => {
-      told.links.push(link);
-      told.steps += Number(isStep);
-    },
-  });
-  const settled = () => new Promise(done => { setTimeout(done, 20); });
-  const ring = async () => {
-    const calls = [...due.values()];
-    due.clear();
-    for (const call of calls) await call();
-    await settled();
-  };
-  return { session, told, ring, settled };
-}
 
 const pitsShown = session => session.record.game.pits.join("");
 
