@@ -3,8 +3,8 @@
 
     examples/serve_levels.py FOLDER [PORT]
 
-The folder has what lies in explorer/, and a folder `levels` in it. Of each entry that is shown the page then
-reads six bytes. Any web server that knows Range will do.
+The folder is one that explorer/site makes. Of each entry that is shown the page then reads six bytes. Any web
+server that knows Range will do.
 """
 import re
 import sys

@@ -2300,6 +2300,8 @@ function lengthFaultOf(file, number) {
  * @returns {Promise<Level>}
  */
 async function openLevel(file) {
+  const tail = bytesOf(file, Math.max(0, file.size - DIGEST_BYTES), file.size);
+  tail.catch(() => {}); // it is told once the digest is due
   const head = await bytesOf(file, 0, HEADER_BYTES);
   const headerFault = headerFaultOf(file, head);
   if (headerFault) throw headerFault;
@@ -2314,7 +2316,7 @@ async function openLevel(file) {
     boards: sizeOf(number),
     limit: new DataView(head.buffer).getUint32(16),
     below: hex(head.slice(20, HEADER_BYTES)),
-    digest: hex(await bytesOf(file, file.size - DIGEST_BYTES)),
+    digest: hex(await tail),
   };
 }
 
@@ -2347,13 +2349,13 @@ const entryAt = (view, place) => {
   const plan = view.getUint8(place + 1);
   return { value: view.getInt8(place), plan: plan === NO_PLAN ? null : plan, distance: view.getUint32(place + 2) };
 };
-return { HIGHEST, HEADER_BYTES, ENTRY_BYTES, DIGEST_BYTES, MAGIC, LAST_PIT, nameOf, fileSizeOf, placeOf, hex, bytesOf, openLevel, belowFaultOf, namedLevels, entryAt };
+return { HIGHEST, HEADER_BYTES, ENTRY_BYTES, DIGEST_BYTES, MAGIC, NO_DIGEST, LAST_PIT, nameOf, fileSizeOf, placeOf, hex, bytesOf, openLevel, belowFaultOf, namedLevels, entryAt };
 })();
 
 const module_hosted = (() => {
 // Levels in a folder of the page's own server. Six bytes of a file are asked for where the server knows Range.
 
-const { fileSizeOf, HEADER_BYTES, HIGHEST, hex, MAGIC, nameOf } = module_level_file;
+const { fileSizeOf, HEADER_BYTES, HIGHEST, hex, MAGIC, nameOf, NO_DIGEST } = module_level_file;
 const { Fault } = module_rules;
 
 /** If a server ignores Range, files up to this level are fetched whole. */
@@ -2361,6 +2363,8 @@ const HIGHEST_WHOLE = 12;
 /** So many files in a row that can't be read end the search for more. */
 const MOST_UNREAD = 2;
 const MAGIC_BYTES = 4;
+/** What explorer/site lays beside the levels. */
+const INDEX = "index.json", MOST_INDEX_BYTES = 1 << 16;
 /** Besides those of 500 and more: the server asks to try again. */
 const TRY_AGAIN = [408, 425, 429];
 
@@ -2379,6 +2383,7 @@ const patience = { request: 10_000, bytesAMillisecond: 20, pauses: [300, 1500] }
  * @property {Fault | null} fault why it could not be read
  * @property {boolean} isWhole whether the server ignores Range
  * @property {boolean} isLevel whether it begins as a level does, or could not be read
+ * @property {import("./shelf.mjs").Listed} [listed] what the folder's index says of it, which has not been looked at
  */
 
 /**
@@ -2500,14 +2505,52 @@ async function bytesUpTo(answer, most) {
 // ---- a folder ----
 
 /**
- * The levels of a folder from this number up, each as its header comes, to the first that is not there. Unless the
- * address asks for levels, what does not begin as a level does is not there: a server may show a page in its place.
+ * The levels of a folder from this number up, to the first that is not there: those of its index at once if the server
+ * gives parts, and else each as its header comes. Unless the address asks for levels, what does not begin as a level
+ * does is not there: a server may show a page in its place.
  * @param {Hosted} hosted
  * @param {number} first
  * @returns {AsyncGenerator<Found>}
  */
 async function* hostedLevels({ folder, isAsked }, first) {
-  let next = headOf(folder, first);
+  const [index, head] = await Promise.all([indexOf(folder), headOf(folder, first)]);
+  const isByParts = !head || (head.isLevel && !head.isWhole);
+  if (index.length > first && isByParts) yield* index.slice(first).map(listed => foundListed(folder, listed));
+  else yield* foundHeads({ folder, isAsked }, first, head);
+}
+
+/** A level as the index has it. Its file is looked at with the first entry that is asked for. */
+function foundListed(folder, listed) {
+  const { number, bytes } = listed, source = new HostedFile(new URL(nameOf(number), folder), bytes);
+  return { number, source, fault: null, isWhole: false, isLevel: true, listed };
+}
+
+/** The levels of a folder's index, none if it has none that can be read. */
+async function indexOf(folder) {
+  try {
+    const answer = await fetch(new URL(INDEX, folder), { cache: "no-store", signal: AbortSignal.timeout(patience.request) });
+    return answer.ok ? listedIn(new TextDecoder().decode(await bytesUpTo(answer, MOST_INDEX_BYTES))) : [];
+  } catch {
+    return [];
+  }
+}
+
+/** What an index says of the levels from 0 up, to the first that it has not or that can't be so. */
+function listedIn(text) {
+  const { levels } = JSON.parse(text), isSo = (each, number) => each?.number === number && number <= HIGHEST
+    && each.bytes === fileSizeOf(number) && Number.isInteger(each.limit) && /^[0-9a-f]{64}$/.test(each.digest);
+  const end = levels.findIndex((each, number) => !isSo(each, number));
+  return (end < 0 ? levels : levels.slice(0, end)).map((each, number) =>
+    ({ ...each, below: number === 0 ? NO_DIGEST : levels[number - 1].digest }));
+}
+
+/**
+ * @param {Hosted} hosted
+ * @param {number} first
+ * @param {Found | null} head what is found under the name of the first
+ */
+async function* foundHeads({ folder, isAsked }, first, head) {
+  let next = Promise.resolve(head);
   for (let number = first, unread = 0; number <= HIGHEST && unread < MOST_UNREAD; number++) {
     const found = await next;
     if (!found || (!found.isLevel && !isAsked)) return;
@@ -2544,7 +2587,7 @@ async function foundIn(answer, place, number, whole) {
 }
 
 const beginsAsLevel = bytes => hex(new Uint8Array(bytes.slice(0, MAGIC_BYTES))) === MAGIC;
-return { HIGHEST_WHOLE, patience, hostedFolder, hostedLevels };
+return { HIGHEST_WHOLE, patience, hostedFolder, hostedLevels, listedIn };
 })();
 
 const module_proved = (() => {
@@ -2819,7 +2862,7 @@ const module_shelf = (() => {
 const {
   belowFaultOf, bytesOf, ENTRY_BYTES, entryAt, HIGHEST, LAST_PIT, namedLevels, nameOf, openLevel, placeOf,
 } = module_level_file;
-const { Fault, print, stonesOf } = module_rules;
+const { Fault, print, sizeOf, stonesOf } = module_rules;
 const { plural } = module_words;
 
 /**
@@ -2830,9 +2873,15 @@ const { plural } = module_words;
  *
  * @typedef {"built" | "verified" | "unverified"} Standing how it is known what a level says
  * @typedef {import("./level_file.mjs").Source} Source
- * @typedef {{ level?: Level, standing?: Standing, fault?: Error, again?: Source }} Slot a level, or why it is refused;
- * what could not be read is tried again once a board asks for it
+ * @typedef {{ number: number, bytes: number, limit: number, digest: string, below: string }} Listed what an index says
+ * of a level
+ *
+ * @typedef {{ level?: Level, standing?: Standing, fault?: Error, again?: Source, isListed?: boolean,
+ *   looking?: Promise<void> | null }} Slot a level, or why it is refused; what could not be read is tried again once a
+ * board asks for it. Of a listed one nothing was read yet
  */
+
+const notListed = number => new Fault(80, "Below", `${nameOf(number)} is another file than the index of its folder names`);
 
 /** How many entries are kept that were read. */
 const KEPT_ENTRIES = 20000;
@@ -2883,6 +2932,38 @@ class Shelf {
    */
   async take(number, source, fault = null) {
     this.slots[number] = fault ? { fault, again: source } : await this.#opened(number, source);
+  }
+
+  /**
+   * Takes a level by what an index says of it. Its file is looked at once an entry is asked for.
+   * @param {Source} file
+   * @param {Listed} listed
+   */
+  list(file, { number, limit, digest, below }) {
+    const level = { number, file, boards: sizeOf(number), limit, below, digest };
+    this.slots[number] = { level, standing: "unverified", isListed: true };
+  }
+
+  /** Looks once whether the file of a listed level is the one that the index names. */
+  async #look(number) {
+    const slot = this.slots[number];
+    if (!slot?.isListed) return;
+    slot.looking ??= this.#compare(number, slot);
+    await slot.looking;
+  }
+
+  async #compare(number, slot) {
+    try {
+      const found = await openLevel(slot.level.file), fault = belowFaultOf(found, number, this.level(number - 1));
+      if (fault) throw fault;
+      if (found.digest !== slot.level.digest || found.limit !== slot.level.limit) throw notListed(number);
+      slot.isListed = false;
+    } catch (fault) {
+      slot.looking = null;
+      if (!fault.isPassing) this.slots[number] = { fault };
+      if (!fault.isPassing) this.came();
+      throw fault;
+    }
   }
 
   /** @returns {Promise<Slot>} */
@@ -2941,7 +3022,7 @@ class Shelf {
     await this.#trying.get(stones);
     const level = this.#levelOf(stones), word = print(board);
     if (!this.#kept.has(word)) {
-      const entry = await this.#read(level, board);
+      const [entry] = await Promise.all([this.#read(level, board), this.#look(stones)]);
       if (this.#kept.size >= KEPT_ENTRIES) this.#kept.clear();
       this.#kept.set(word, entry);
     }
@@ -3287,16 +3368,19 @@ class Library {
     const { folder, isAsked } = hosted, first = this.length;
     if (folder.origin !== location.origin)
       return this.#tell(`Levels are read from this server alone, and not from ${folder.origin}.`);
-    let shelf = null, isWhole = false;
+    let shelf = null, isWhole = false, isListed = false;
     for await (const found of hostedLevels(hosted, first)) {
-      if (shelf ? this.shelf !== shelf : this.opened) return; // a hand was quicker
+      if (shelf && !isListed ? this.shelf !== shelf : this.opened) return; // a hand was quicker
       isWhole ||= found.isWhole && found.isLevel;
       if (!found.source) break;
       shelf ??= new Shelf(this.proved, this.#right);
-      await shelf.take(found.number, found.source, found.fault);
+      isListed = Boolean(found.listed);
+      if (found.listed) shelf.list(found.source, found.listed);
+      else await shelf.take(found.number, found.source, found.fault);
       if (this.opened && this.shelf !== shelf) return;
-      this.#takeHosted(shelf, first);
+      if (!isListed) this.#takeHosted(shelf, first);
     }
+    if (isListed) this.#takeHosted(shelf, first);
     if (isWhole)
       this.#tell(`This server ignores Range requests: levels to ${HIGHEST_WHOLE} are fetched whole, and none above.`);
     else if (isAsked && !shelf) this.#tell(`${folder.pathname} has no ${nameOf(first)}.`);
@@ -4678,6 +4762,45 @@ class BoardView {
 return { BoardView };
 })();
 
+const module_known = (() => {
+// The digests that docs/levels.csv has. A level has one right file, so another digest is that of a wrong one.
+
+const DIGESTS = [
+  "c90c3c3629b1c963507f83d9894d84cb78d15ceb14847ebb17360a8ed545cf0f",
+  "e5a9a57f6858a25baad0b0a5a6a39407e11a4315b2a1df329ebea00cef062deb",
+  "326cbe86f97046809b09630f35e9ca500777be5ba275edb931a71fa1af1a4a9f",
+  "791ea546bd1662c21d7c27eb050f8e444e8f541da97bd285f3dc5c692ae39a2f",
+  "b55db5f40f80654fee93fde6d202a74b07968d57100653e9539b264afcbfc16d",
+  "48aac3847d9f84e5506759b520db175f2c0ea5c49086f7205acdc2eb67ac3c53",
+  "ebbc32bd38a6dafb1b2d7caca7dc013cd1264cb40d1669e9739a020ba053f212",
+  "da45313cf97401fa927c44404dff7b919d07a291bbde6ccf17ca061e75599f4f",
+  "1fabe20106d8b54a9f17be4e5fa9257df62dba8ac94bcc3903ba11483b50b9ae",
+  "5a73de92e7ab59c5c07f2da4ddac33914756150bd8d72d4adb36485b16402180",
+  "8c66b6a7172e3c31ac9db1c18ca189a04e85ebb1c954ce1a86d15e4844d722cd",
+  "34ac9da831b00578ae75fc5afda6f2abb30639e2512a1d8fcb87a902e713773d",
+  "2190e4348b698372c41cadf693c0390bd0ad890a15d09b988da42fd9e0bce990",
+  "374a7343e4816a4539999b92db364cb71e80f9fa8737e0a4eab3c95c5af53bbb",
+  "17d99fd212f53f5a10ea21c730354e5dcd8720d28a3ccd1891bb6dc6dd6740da",
+  "3e503f68f0b947662e190a41604492724492f174f7db07c4ffbcff98deb9378e",
+  "9e473c89a229ce08b5006afe0dc287752c1486fcd85751f2fbe90bc506666ec7",
+  "3eb39ef892bb3885e1bf548790ab5214880c0f3f9f045456adcb2446abd3a60e",
+  "ea01b681f39d50344853fd6c3a09a1c6a05691475bda2fde5d290b37e7015e2d",
+  "4352fe557001574f03dc295e837a3644d6abab28542e28193db0769916d9e292",
+  "79ed6ac9b5309e75d2338f42b56cd293969247b0aa81c90c5707feee8dfe98bf",
+  "063cd4b3ad86566c8b29b29d3458c21df1a1537da8afb9b2c6865ba0c7e15598",
+  "aacf722f2e19583e3b0fa095ed2c35e8fc0f9d63b741a48e04ed68ca0c61391f",
+  "b16b1a5f2b7e5fe31e03359e3d2bc83a14d47c2f21068aa707fffe11f6122ec4",
+  "3c37679cd0489c92cc3b86b41bcc17d2a526d762aa76d6f29d216e06b2b4f759",
+];
+
+/**
+ * Whether a level ends in the digest that docs/levels.csv has for it.
+ * @param {{ number: number, digest: string }} level
+ */
+const isKnown = ({ number, digest }) => DIGESTS[number] === digest;
+return { isKnown };
+})();
+
 const module_pictures = (() => {
 // Numbers as pictures: columns of which one is chosen, by a finger, a mouse or the arrow keys.
 //
@@ -4954,6 +5077,7 @@ const module_levels_view = (() => {
 // The levels that are there, a button each, and a summary of one of them: its numbers, and two pictures.
 
 const { button, byId, element } = module_elements;
+const { isKnown } = module_known;
 const { fileSizeOf, HIGHEST, nameOf } = module_level_file;
 const { Picture } = module_pictures;
 const { sizeOf } = module_rules;
@@ -5098,7 +5222,8 @@ class LevelsView {
       ...row("boards", [`Boards with ${plural(level.number, "stone")}`], grouped(level.boards)),
       ...parts,
       ...row("limit", ["Greatest distance"], plies(level.limit)),
-      ...row("digest", ["Digest"], element("code", {}, level.digest)));
+      ...row("digest", ["Digest"], element("code", {}, level.digest)),
+      ...row("known", ["Which is"], isKnown(level) ? "that of docs/levels.csv" : element("b", { class: "bad" }, "not that of docs/levels.csv: the file is wrong")));
   }
 
   /** They are made once, so that the column that was chosen stays so. */

@@ -1,7 +1,7 @@
 // @ts-check
 // Levels in a folder of the page's own server. Six bytes of a file are asked for where the server knows Range.
 
-import { fileSizeOf, HEADER_BYTES, HIGHEST, hex, MAGIC, nameOf } from "./level_file.mjs";
+import { fileSizeOf, HEADER_BYTES, HIGHEST, hex, MAGIC, nameOf, NO_DIGEST } from "./level_file.mjs";
 import { Fault } from "./rules.mjs";
 
 /** If a server ignores Range, files up to this level are fetched whole. */
@@ -9,6 +9,8 @@ export const HIGHEST_WHOLE = 12;
 /** So many files in a row that can't be read end the search for more. */
 const MOST_UNREAD = 2;
 const MAGIC_BYTES = 4;
+/** What explorer/site lays beside the levels. */
+const INDEX = "index.json", MOST_INDEX_BYTES = 1 << 16;
 /** Besides those of 500 and more: the server asks to try again. */
 const TRY_AGAIN = [408, 425, 429];
 
@@ -27,6 +29,7 @@ export const patience = { request: 10_000, bytesAMillisecond: 20, pauses: [300, 
  * @property {Fault | null} fault why it could not be read
  * @property {boolean} isWhole whether the server ignores Range
  * @property {boolean} isLevel whether it begins as a level does, or could not be read
+ * @property {import("./shelf.mjs").Listed} [listed] what the folder's index says of it, which has not been looked at
  */
 
 /**
@@ -148,14 +151,52 @@ async function bytesUpTo(answer, most) {
 // ---- a folder ----
 
 /**
- * The levels of a folder from this number up, each as its header comes, to the first that is not there. Unless the
- * address asks for levels, what does not begin as a level does is not there: a server may show a page in its place.
+ * The levels of a folder from this number up, to the first that is not there: those of its index at once if the server
+ * gives parts, and else each as its header comes. Unless the address asks for levels, what does not begin as a level
+ * does is not there: a server may show a page in its place.
  * @param {Hosted} hosted
  * @param {number} first
  * @returns {AsyncGenerator<Found>}
  */
 export async function* hostedLevels({ folder, isAsked }, first) {
-  let next = headOf(folder, first);
+  const [index, head] = await Promise.all([indexOf(folder), headOf(folder, first)]);
+  const isByParts = !head || (head.isLevel && !head.isWhole);
+  if (index.length > first && isByParts) yield* index.slice(first).map(listed => foundListed(folder, listed));
+  else yield* foundHeads({ folder, isAsked }, first, head);
+}
+
+/** A level as the index has it. Its file is looked at with the first entry that is asked for. */
+function foundListed(folder, listed) {
+  const { number, bytes } = listed, source = new HostedFile(new URL(nameOf(number), folder), bytes);
+  return { number, source, fault: null, isWhole: false, isLevel: true, listed };
+}
+
+/** The levels of a folder's index, none if it has none that can be read. */
+async function indexOf(folder) {
+  try {
+    const answer = await fetch(new URL(INDEX, folder), { cache: "no-store", signal: AbortSignal.timeout(patience.request) });
+    return answer.ok ? listedIn(new TextDecoder().decode(await bytesUpTo(answer, MOST_INDEX_BYTES))) : [];
+  } catch {
+    return [];
+  }
+}
+
+/** What an index says of the levels from 0 up, to the first that it has not or that can't be so. */
+export function listedIn(text) {
+  const { levels } = JSON.parse(text), isSo = (each, number) => each?.number === number && number <= HIGHEST
+    && each.bytes === fileSizeOf(number) && Number.isInteger(each.limit) && /^[0-9a-f]{64}$/.test(each.digest);
+  const end = levels.findIndex((each, number) => !isSo(each, number));
+  return (end < 0 ? levels : levels.slice(0, end)).map((each, number) =>
+    ({ ...each, below: number === 0 ? NO_DIGEST : levels[number - 1].digest }));
+}
+
+/**
+ * @param {Hosted} hosted
+ * @param {number} first
+ * @param {Found | null} head what is found under the name of the first
+ */
+async function* foundHeads({ folder, isAsked }, first, head) {
+  let next = Promise.resolve(head);
   for (let number = first, unread = 0; number <= HIGHEST && unread < MOST_UNREAD; number++) {
     const found = await next;
     if (!found || (!found.isLevel && !isAsked)) return;

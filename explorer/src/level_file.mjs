@@ -34,7 +34,7 @@ export const HEADER_BYTES = 52;
 export const ENTRY_BYTES = 6;
 export const DIGEST_BYTES = 32;
 export const MAGIC = "41574442";
-const NO_DIGEST = "0".repeat(2 * DIGEST_BYTES);
+export const NO_DIGEST = "0".repeat(2 * DIGEST_BYTES);
 const NO_PLAN = 255;
 export const LAST_PIT = 5;
 
@@ -107,6 +107,8 @@ function lengthFaultOf(file, number) {
  * @returns {Promise<Level>}
  */
 export async function openLevel(file) {
+  const tail = bytesOf(file, Math.max(0, file.size - DIGEST_BYTES), file.size);
+  tail.catch(() => {}); // it is told once the digest is due
   const head = await bytesOf(file, 0, HEADER_BYTES);
   const headerFault = headerFaultOf(file, head);
   if (headerFault) throw headerFault;
@@ -121,7 +123,7 @@ export async function openLevel(file) {
     boards: sizeOf(number),
     limit: new DataView(head.buffer).getUint32(16),
     below: hex(head.slice(20, HEADER_BYTES)),
-    digest: hex(await bytesOf(file, file.size - DIGEST_BYTES)),
+    digest: hex(await tail),
   };
 }
 

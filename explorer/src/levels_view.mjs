@@ -2,6 +2,7 @@
 // The levels that are there, a button each, and a summary of one of them: its numbers, and two pictures.
 
 import { button, byId, element } from "./elements.mjs";
+import { isKnown } from "./known.mjs";
 import { fileSizeOf, HIGHEST, nameOf } from "./level_file.mjs";
 import { Picture } from "./pictures.mjs";
 import { sizeOf } from "./rules.mjs";
@@ -146,7 +147,8 @@ export class LevelsView {
       ...row("boards", [`Boards with ${plural(level.number, "stone")}`], grouped(level.boards)),
       ...parts,
       ...row("limit", ["Greatest distance"], plies(level.limit)),
-      ...row("digest", ["Digest"], element("code", {}, level.digest)));
+      ...row("digest", ["Digest"], element("code", {}, level.digest)),
+      ...row("known", ["Which is"], isKnown(level) ? "that of docs/levels.csv" : element("b", { class: "bad" }, "not that of docs/levels.csv: the file is wrong")));
   }
 
   /** They are made once, so that the column that was chosen stays so. */

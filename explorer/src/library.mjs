@@ -312,16 +312,19 @@ export class Library {
     const { folder, isAsked } = hosted, first = this.length;
     if (folder.origin !== location.origin)
       return this.#tell(`Levels are read from this server alone, and not from ${folder.origin}.`);
-    let shelf = null, isWhole = false;
+    let shelf = null, isWhole = false, isListed = false;
     for await (const found of hostedLevels(hosted, first)) {
-      if (shelf ? this.shelf !== shelf : this.opened) return; // a hand was quicker
+      if (shelf && !isListed ? this.shelf !== shelf : this.opened) return; // a hand was quicker
       isWhole ||= found.isWhole && found.isLevel;
       if (!found.source) break;
       shelf ??= new Shelf(this.proved, this.#right);
-      await shelf.take(found.number, found.source, found.fault);
+      isListed = Boolean(found.listed);
+      if (found.listed) shelf.list(found.source, found.listed);
+      else await shelf.take(found.number, found.source, found.fault);
       if (this.opened && this.shelf !== shelf) return;
-      this.#takeHosted(shelf, first);
+      if (!isListed) this.#takeHosted(shelf, first);
     }
+    if (isListed) this.#takeHosted(shelf, first);
     if (isWhole)
       this.#tell(`This server ignores Range requests: levels to ${HIGHEST_WHOLE} are fetched whole, and none above.`);
     else if (isAsked && !shelf) this.#tell(`${folder.pathname} has no ${nameOf(first)}.`);

@@ -4,7 +4,7 @@
 import {
   belowFaultOf, bytesOf, ENTRY_BYTES, entryAt, HIGHEST, LAST_PIT, namedLevels, nameOf, openLevel, placeOf,
 } from "./level_file.mjs";
-import { Fault, print, stonesOf } from "./rules.mjs";
+import { Fault, print, sizeOf, stonesOf } from "./rules.mjs";
 import { plural } from "./words.mjs";
 
 /**
@@ -15,9 +15,15 @@ import { plural } from "./words.mjs";
  *
  * @typedef {"built" | "verified" | "unverified"} Standing how it is known what a level says
  * @typedef {import("./level_file.mjs").Source} Source
- * @typedef {{ level?: Level, standing?: Standing, fault?: Error, again?: Source }} Slot a level, or why it is refused;
- * what could not be read is tried again once a board asks for it
+ * @typedef {{ number: number, bytes: number, limit: number, digest: string, below: string }} Listed what an index says
+ * of a level
+ *
+ * @typedef {{ level?: Level, standing?: Standing, fault?: Error, again?: Source, isListed?: boolean,
+ *   looking?: Promise<void> | null }} Slot a level, or why it is refused; what could not be read is tried again once a
+ * board asks for it. Of a listed one nothing was read yet
  */
+
+const notListed = number => new Fault(80, "Below", `${nameOf(number)} is another file than the index of its folder names`);
 
 /** How many entries are kept that were read. */
 const KEPT_ENTRIES = 20000;
@@ -68,6 +74,38 @@ export class Shelf {
    */
   async take(number, source, fault = null) {
     this.slots[number] = fault ? { fault, again: source } : await this.#opened(number, source);
+  }
+
+  /**
+   * Takes a level by what an index says of it. Its file is looked at once an entry is asked for.
+   * @param {Source} file
+   * @param {Listed} listed
+   */
+  list(file, { number, limit, digest, below }) {
+    const level = { number, file, boards: sizeOf(number), limit, below, digest };
+    this.slots[number] = { level, standing: "unverified", isListed: true };
+  }
+
+  /** Looks once whether the file of a listed level is the one that the index names. */
+  async #look(number) {
+    const slot = this.slots[number];
+    if (!slot?.isListed) return;
+    slot.looking ??= this.#compare(number, slot);
+    await slot.looking;
+  }
+
+  async #compare(number, slot) {
+    try {
+      const found = await openLevel(slot.level.file), fault = belowFaultOf(found, number, this.level(number - 1));
+      if (fault) throw fault;
+      if (found.digest !== slot.level.digest || found.limit !== slot.level.limit) throw notListed(number);
+      slot.isListed = false;
+    } catch (fault) {
+      slot.looking = null;
+      if (!fault.isPassing) this.slots[number] = { fault };
+      if (!fault.isPassing) this.came();
+      throw fault;
+    }
   }
 
   /** @returns {Promise<Slot>} */
@@ -126,7 +164,7 @@ export class Shelf {
     await this.#trying.get(stones);
     const level = this.#levelOf(stones), word = print(board);
     if (!this.#kept.has(word)) {
-      const entry = await this.#read(level, board);
+      const [entry] = await Promise.all([this.#read(level, board), this.#look(stones)]);
       if (this.#kept.size >= KEPT_ENTRIES) this.#kept.clear();
       this.#kept.set(word, entry);
     }

@@ -20,6 +20,7 @@ import hosted
 import looks
 import playing
 import puzzling
+import sites
 from driven import FIRST, TALLY, Page, check, end_section, pits_of, random_board, run, signed, unsigned, until
 from selenium.webdriver.common.action_chains import ActionChains
 from selenium.webdriver.common.keys import Keys
@@ -409,6 +410,7 @@ def test_page(given, made):
         looks.widths(page)
         looks.touch(page)
     end_section("no error in the console, nothing asked of the network")
+    sites.sites(folder, made)
     hosted.hosted_levels(awari, folder, made)
 
 

@@ -19,8 +19,10 @@ let asked = [];
 /** Answers each request by this: a name, the first and the last byte, and how often the name was asked for. */
 function serve(answer) {
   asked = [];
-  globalThis.fetch = async (place, { headers: { Range }, signal }) => {
-    const name = place.pathname.split("/").at(-1), [, first, last] = /^bytes=(\d+)-(\d+)$/.exec(Range).map(Number);
+  globalThis.fetch = async (place, { headers, signal }) => {
+    const name = place.pathname.split("/").at(-1);
+    if (name === "index.json") return index();
+    const [, first, last] = /^bytes=(\d+)-(\d+)$/.exec(headers.Range).map(Number);
     asked.push(`${name} ${first}-${last}`);
     const times = asked.filter(it => it.startsWith(name)).length;
     return answer({ name, first, last, times, signal });
@@ -28,6 +30,12 @@ function serve(answer) {
 }
 
 const missing = () => new Response("none", { status: 404 });
+/** What is answered for the index of the folder. */
+let index = missing;
+/** As explorer/site writes it. */
+const listed = [...files].map(([, bytes], number) =>
+  ({ number, bytes: bytes.length, limit: bytes.readUInt32BE(16), digest: bytes.subarray(-32).toString("hex") }));
+const indexOf = levels => () => new Response(JSON.stringify({ levels }));
 const whole = bytes => new Response(bytes);
 function part(bytes, first, last, told) {
   const end = Math.min(last + 1, bytes.length), range = told !== undefined ? told : `bytes ${first}-${end - 1}/${bytes.length}`;
@@ -148,6 +156,52 @@ await section("a network that fails", async () => {
   serve(fails[500]);
   expect("a server that is down", (await opened()).told.length, 2);
   expect("it is left alone then", [asked.length < 10, asked.some(it => it.startsWith(nameOf(10)))], [true, false]);
+});
+
+await section("a folder with an index", async () => {
+  index = indexOf(listed);
+  serve(right);
+  let page = await opened();
+  expect("its levels", [standings(page), page.library.title, page.told], ["bbbbbbbuuu", "Levels to 9 of this server", []]);
+  expect("by one header", asked.filter(it => !it.startsWith("level_09")), ["level_07.awdb 0-51"]);
+  expect("all at once", page.shown.filter(title => title.endsWith("server")), ["Levels to 9 of this server"]);
+  asked = [];
+  for (const stones of [7, 8, 9, 7]) expect(`an entry of ${stones}`, await entryOf(page.shelf, stones), values.get(stones));
+  const lengths = asked.map(it => /(\d+)-(\d+)$/.exec(it).slice(1).map(Number)).map(([first, last]) => last + 1 - first).sort((one, other) => one - other);
+  expect("a header and a digest of each level once", lengths, [6, 6, 6, 32, 32, 32, 52, 52, 52]);
+  index = indexOf(listed.map(each => each.number === 8 ? { ...each, digest: "ab".repeat(32) } : each));
+  serve(right);
+  page = await opened();
+  expect("another digest", await entryOf(page.shelf, 8), "80 level_08.awdb is another file than the index of its folder names (80 Below)");
+  expect("is told", [standings(page), page.library.shelf.faults.length], ["bbbbbbbu!u", 1]);
+  expect("the one above it answers", await entryOf(page.shelf, 9), values.get(9));
+  index = indexOf(listed);
+  serve(it => right({ ...it, name: it.name === nameOf(8) && it.first < 60 ? nameOf(7) : it.name }));
+  page = await opened();
+  expect("another level under its name", await entryOf(page.shelf, 8), "67 level_08.awdb is too long: it has 453,576 bytes, and level 7 has 191,028 (67 Trailing)");
+  serve(it => it.name === nameOf(9) ? missing() : right(it));
+  page = await opened();
+  expect("a level that the folder has not", await entryOf(page.shelf, 9), "68 level_09.awdb can’t be read from the server: it answers 404 (68 Read)");
+  serve(({ name }) => files.has(name) ? whole(files.get(name)) : missing());
+  expect("a server that ignores Range", standings(await opened()), "bbbbbbbvvv");
+});
+
+await section("an index that is none", async () => {
+  serve(right);
+  for (const [what, answer] of Object.entries({
+    "a page": () => whole(PAGE), "half of it": () => new Response(JSON.stringify({ levels: listed }).slice(0, 300)), "no list": () => new Response('{"levels":7}'),
+    nothing: missing, "a list of others": indexOf(["x", null]), "a list without a size": indexOf(listed.map(({ number, digest }) => ({ number, digest }))),
+    "a network that fails": () => { throw new TypeError("Failed to fetch"); },
+  })) {
+    index = answer;
+    const page = await opened();
+    expect(`${what}: each level is looked for`, [standings(page), page.told], ["bbbbbbbuuu", []]);
+  }
+  index = indexOf(listed.slice(0, 9));
+  expect("a list to 8", (await opened()).library.title, "Levels to 8 of this server");
+  index = indexOf([...listed.slice(0, 8), { ...listed[8], bytes: 1 }]);
+  expect("a size that can't be", (await opened()).library.title, "Levels to 7 of this server");
+  index = missing;
 });
 
 await section("a hand that is quicker", async () => {

@@ -8,6 +8,7 @@ from contextlib import contextmanager
 from pathlib import Path
 
 from driven import Page, check, end_section, run, until
+from sites import make
 
 TOP = Path(__file__).resolve().parents[2]
 SCRIPTS = ["index.html", "style.css", "explorer.js", "awari_module.js"]
@@ -17,8 +18,8 @@ handler = functools.partial(http.server.SimpleHTTPRequestHandler, directory=sys.
 server = http.server.ThreadingHTTPServer(("127.0.0.1", 0), handler)
 print(f"http://127.0.0.1:{server.server_port}/", flush=True)
 server.serve_forever()"""
-# What browsers say of a file that a server does not have: so does a folder of levels end.
-ENDS = r"level_\d\d\.awdb - Failed to load resource.*404"
+# What browsers say of a file that a server does not have: so does a folder of levels end that has no index.
+ENDS = r"(level_\d\d\.awdb|index\.json) - Failed to load resource.*404"
 HIGHEST = 20
 
 
@@ -53,9 +54,12 @@ def make_site(folder, made):
 
 def hosted_levels(awari, folder, made):
     site = make_site(folder, made)
+    check("a site is made of it", make(site / "levels", site / "made")[0], 0)
     with serving(TOP / "examples/serve_levels.py", site, 0) as address:
         with Page(page=f"{address}index.html", told=ENDS) as page:
             by_parts(page, awari, folder)
+        with Page(page=f"{address}made/index.html") as page:
+            by_index(page, awari, folder)
         with Page(page=f"{address}index.html?levels=http://localhost:1/levels/") as page:
             check("another server is refused", until(lambda: "this server alone" in page.text("#notice")))
             check("the page has its own levels", page.value(), 4)
@@ -66,6 +70,32 @@ def hosted_levels(awari, folder, made):
         page.show("0,1,0,2,0,1/0,3,0,0,2,1")
         check("a board of one", page.moves(), run(awari, "moves", folder, page.word()))
     end_section("levels of a server, by Range and whole")
+
+
+def by_index(page, awari, folder):
+    """The page finds its levels by itself, and reads the header of one before an entry is asked for."""
+    check("the levels of the index", until(lambda: f"Levels to {HIGHEST} of this server" in page.text("#folder-name")))
+    parts = sent_parts(page)
+    check("one header is read", parts, {"level_07.awdb": [(0, 51)]})
+    page.show("0,1,0,2,0,1/0,3,0,0,2,1")
+    check("a board", page.moves(), run(awari, "moves", folder, page.word()))
+    sent_parts(page)
+    page.show("0,1,0,2,0,1/0,3,0,0,1,2")
+    check("each level is looked at once", {last + 1 - first for found in sent_parts(page).values() for first, last in found}, {6})
+    page.click("#level-9")
+    check("the digest is compared", page.text("#level-known"), "that of docs/levels.csv")
+    page.click("#level-15")
+    check("so is a wrong one", "the file is wrong" in page.text("#level-known"))
+
+
+def sent_parts(page):
+    """Which bytes of which levels were asked for since the last time."""
+    found = {}
+    for message in [entry["message"] for entry in page.driver.get_log("performance")]:
+        part = re.search(r'"Range":"bytes=(\d+)-(\d+)".*"url":"[^"]*(level_\d\d\.awdb)"', message)
+        if part and '"Network.requestWillBeSent"' in message:
+            found.setdefault(part[3], []).append((int(part[1]), int(part[2])))
+    return found
 
 
 def by_parts(page, awari, folder):

@@ -4,6 +4,7 @@ import { execFileSync } from "node:child_process";
 import { readFileSync } from "node:fs";
 import { join } from "node:path";
 import { Levels } from "../../bindings/awari.mjs";
+import { isKnown } from "../../explorer/src/known.mjs";
 import * as Files from "../../explorer/src/level_file.mjs";
 import * as Rules from "../../explorer/src/rules.mjs";
 import { countBoards } from "../../explorer/src/scans.mjs";
@@ -26,6 +27,12 @@ const proved = new Proved(0);
 await proved.ready;
 for (const { file } of shelf.levels) await proved.ask("add", file);
 const verified = new Shelf(proved, shelf.levels.map(level => ({ level, standing: "verified" })));
+
+await section("the digests of docs/levels.csv", () => {
+  const rows = readFileSync(new URL("../../docs/levels.csv", import.meta.url), "utf8").trim().split("\n").slice(1).map(row => row.split(","));
+  for (const [level, , , , , , digest] of rows) expect(`level ${level}`, [isKnown({ number: Number(level), digest }), digest.length], [true, 64]);
+  expect("another", [isKnown({ number: 3, digest: rows[4][6] }), isKnown({ number: 25, digest: "" })], [false, false]);
+});
 
 await section("levels 0 to 10 that the proved code builds beside the program's files", async () => {
   const built = new Proved(HIGHEST_READ + 1);
