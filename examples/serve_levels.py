@@ -17,6 +17,7 @@ class Parts(SimpleHTTPRequestHandler):
     """Python's own handler gives whole files alone."""
 
     protocol_version = "HTTP/1.1"
+    disable_nagle_algorithm = True  # else a part waits for its head to be acknowledged
 
     def do_GET(self):
         asked = re.fullmatch(r"bytes=(\d+)-(\d+)", self.headers.get("Range", ""))

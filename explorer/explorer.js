@@ -1060,6 +1060,21 @@ async function filesOfEntry(entry) {
 return { filesOfInput, filesOfDrop };
 })();
 
+const module_letters = (() => {
+// The names of pits: numbers as their mover sees them, or letters that stay with the pits. Nothing here knows
+// of the page.
+
+/** South's pits and North's, each from left to right as their owner sees them. */
+const LETTERS = ["ABCDEF", "abcdef"];
+
+/** The letter of a pit that the mover numbers so. */
+const letterOf = (pit, mover) => LETTERS[pit < 6 ? mover : 1 - mover][pit % 6];
+
+/** The name of a pit that the mover numbers so. */
+const pitName = (pit, mover, hasLetters) => hasLetters ? letterOf(pit, mover) : String(pit);
+return { letterOf, pitName };
+})();
+
 const module_rules = (() => {
 // The game by docs/RULES.md. Nothing here knows of files or of the page.
 //
@@ -1206,6 +1221,160 @@ function randomBoard(stones) {
   return Array.from({ length: 12 }, (_, pit) => ends[pit + 1] - ends[pit] - 1);
 }
 return { Fault, MOST_STONES, stonesOf, turned, print, areSame, parse, isLegal, legalPits, isEnded, endGain, refusalOf, play, sizeOf, randomBoard };
+})();
+
+const module_words = (() => {
+// Numbers and names as the page writes them. Nothing here knows of the game or of the page.
+
+/** Player 0 and player 1. Who moves first is not said: a board may be set with either to move. */
+const SIDES = ["South", "North"];
+
+const grouped = number => String(number).replace(/\B(?=(\d{3})+$)/g, ",");
+
+const plural = (number, one, many = `${one}s`) => `${grouped(number)} ${number === 1 ? one : many}`;
+
+const plies = number => plural(number, "ply", "plies");
+
+const signed = value => value > 0 ? `+${value}` : value < 0 ? `−${-value}` : "0";
+
+/** The same for a voice, which may leave out a sign. */
+const spoken = value => value > 0 ? `plus ${value}` : value < 0 ? `minus ${-value}` : "0";
+
+const percent = (part, whole) => `${(100 * part / whole).toFixed(1)}%`;
+
+function sizeText(number) {
+  if (number < 1e4) return `${grouped(number)} bytes`;
+  if (number < 1e6) return `${Math.round(number / 1e3)} kB`;
+  if (number < 1e9) return `${(number / 1e6).toFixed(1)} MB`;
+  return `${(number / 1e9).toFixed(2)} GB`;
+}
+
+/** For whom a value is: the name of its colour, too. */
+const kindOf = value => value > 0 ? "won" : value < 0 ? "lost" : "even";
+return { SIDES, grouped, plural, plies, signed, spoken, percent, sizeText, kindOf };
+})();
+
+const module_verdict = (() => {
+// What boards and moves are worth, in words.
+
+const { endGain, isEnded, stonesOf } = module_rules;
+const { pitName } = module_letters;
+const { plies, plural, SIDES, signed, spoken } = module_words;
+
+const endsAhead = (lead, side) =>
+  lead === 0 ? "the two end level" : `${SIDES[lead > 0 ? side : 1 - side]} ends ${Math.abs(lead)} ahead`;
+
+/** How many stones a move threw away, and of what. */
+function wordsOfToll({ before, after, thrown }) {
+  if (thrown === 0) return `keeps the worth, ${signed(before)}`;
+  return `threw away ${plural(thrown, "stone")}: worth ${signed(before)} before, ${signed(after)} after`;
+}
+
+/** A heading and a sentence on what the board is worth. */
+function verdictOf({ state, weighed }) {
+  if (isEnded(state.board)) return verdictOfEnd(state);
+  const side = SIDES[state.mover];
+  if (!weighed?.entry) return [`${side} to move`, weighed?.fault?.message ?? ""];
+  const { value, distance } = weighed.entry, lead = leadOf(state);
+  const inAll = lead === 0 ? "" : `. With what was captured, ${endsAhead(lead + value, state.mover)}`;
+  if (value === 0) return [`${side} to move: even`, `Neither side can force a gain${inAll}`];
+  const winner = SIDES[value > 0 ? state.mover : 1 - state.mover], stones = plural(Math.abs(value), "stone");
+  return [
+    `${side} to move: ${value > 0 ? "gains" : "loses"} ${Math.abs(value)}`,
+    `${winner} can force ${stones} more, and a capture or the end within ${plies(distance)}${inAll}`,
+  ];
+}
+
+/** How much more the mover has captured so far. */
+const leadOf = ({ captured, mover }) => captured[mover] - captured[1 - mover];
+
+function verdictOfEnd(state) {
+  const { board, mover, move } = state, stones = stonesOf(board), gain = endGain(board);
+  const keeper = SIDES[gain > 0 ? mover : 1 - mover], last = stones === 1 ? "stone" : `${stones} stones`;
+  const keeps = stones === 0 ? "No stones are left" : `${keeper} keeps the last ${last}`;
+  return ["Play has ended", move ? `${keeps}; ${endsAhead(leadOf(state) + gain, mover)}` : keeps];
+}
+
+const spokenVerdict = shown => verdictOf(shown).filter(Boolean).join(". ");
+
+/** A grand slam and a capture, a value and a distance of a move, in words for a voice. */
+function wordsOfMove(move, hasHints) {
+  const worth = move.fault || move.value === undefined ? "its worth is not known" : `worth ${spoken(move.value)}`;
+  return [
+    move.captured ? `captures ${move.captured}` : move.isSlam ? "a grand slam, captures nothing" : "captures nothing",
+    ...(hasHints ? [worth] : []),
+    ...(move.distance ? [`within ${plies(move.distance)}`] : []),
+    ...(move.isPlan ? ["the plan"] : []),
+  ].join(", ");
+}
+
+// ---- puzzles ----
+
+/** What there is to do in a puzzle, or what came of it. South solves it. */
+function wordsOfPuzzle({ puzzle, hasLetters }) {
+  const { standing, value, gained, rightMoves, decided } = puzzle;
+  if (value === null) return "The levels are being asked.";
+  if (standing === "home") return `Solved: South has gained ${plural(gained, "stone")}, and threw nothing away.`;
+  if (standing === "round") return `This board was there before, so play goes round: ${gained} of ${value} are home.`;
+  if (standing === "lost") return wordsOfLoss(decided, hasLetters);
+  if (standing === "shown") return `Not solved. ${rightPits(decided, hasLetters)}`;
+  if (rightMoves > 0) return `Right so far: ${gained} of ${value} are home. South to move.`;
+  const { distance } = decided.weighed.entry;
+  return `South gains ${value} by one move alone, and another captures more. A capture or the end comes within ${plies(distance)}.`;
+}
+
+function wordsOfLoss({ weighed, costs, pit }, hasLetters) {
+  const before = weighed.entry.value, thrown = costs.thrown.get(pit);
+  const toll = wordsOfToll({ before, after: before - thrown, thrown });
+  return `Pit ${pitName(pit, 0, hasLetters)} ${toll}. ${rightPits({ costs }, hasLetters)}`;
+}
+
+function rightPits({ costs: { right } }, hasLetters) {
+  const names = right.map(pit => pitName(pit, 0, hasLetters));
+  return names.length === 1 ? `Right is pit ${names[0]}.` : `Right are pits ${names.join(", ")}.`;
+}
+return { wordsOfToll, verdictOf, spokenVerdict, wordsOfMove, wordsOfPuzzle };
+})();
+
+const module_plies_view = (() => {
+// Moves that follow each other, a button each.
+
+const { button, element } = module_elements;
+const { pitName } = module_letters;
+const { wordsOfToll } = module_verdict;
+const { SIDES, signed } = module_words;
+
+/**
+ * A move as a button: its pit, what it captured, and what it threw away.
+ * @param {{ pit: number, captured: number }} ply
+ * @param {number} mover
+ * @param {{ label: string, action: () => void, hasLetters: boolean, toll?: import("./game.mjs").Toll | null }} more
+ * @param {{ class?: string, "aria-current"?: string | false }} attributes
+ */
+function makePly({ pit, captured }, mover, { label, action, hasLetters, toll }, attributes = {}) {
+  const side = SIDES[mover], name = pitName(pit, mover, hasLetters);
+  const captures = captured ? `, captures ${captured}` : "", cost = toll?.thrown ? `, ${wordsOfToll(toll)}` : "";
+  const all = {
+    ...attributes,
+    class: `${side.toLowerCase()} ${attributes.class ?? ""}`,
+    title: toll && wordsOfToll(toll),
+    "aria-label": `${label}: ${side}, pit ${name}${captures}${cost}`,
+  };
+  return element("li", {}, button(all, action, name,
+    captured > 0 && element("small", {}, `×${captured}`),
+    toll?.thrown > 0 && element("small", { class: "thrown" }, signed(-toll.thrown))));
+}
+
+/**
+ * The plies of a line that this side begins, from the one with this index on. Each goes to where it leads.
+ * @param {{ pit: number, captured: number }[]} list
+ * @param {{ mover: number, hasLetters: boolean, follow: (plies: object[]) => void }} how
+ */
+const makeLinePlies = (list, { mover, hasLetters, follow }, from = 0) => list.slice(from).map((ply, offset) =>
+  makePly(ply, (mover + from + offset) % 2, {
+    label: `Go to ply ${from + offset + 1} of the line`, action: () => follow(list.slice(0, from + offset + 1)), hasLetters,
+  }));
+return { makePly, makeLinePlies };
 })();
 
 const module_puzzle = (() => {
@@ -1357,564 +1526,13 @@ function costsOf(value, moves) {
 return { PLIES, HIGHEST_GONE_OVER, LEAST_LEVEL, BOARDS_OF_A_SHEET, printAsked, parseAsked, pliesOf, marginOf, wordsOf, isFar, isTrap, mayBePuzzle, drawn, ranksOf, gainOf, costsOf };
 })();
 
-const module_letters = (() => {
-// The names of pits: numbers as their mover sees them, or letters that stay with the pits. Nothing here knows
-// of the page.
-
-/** South's pits and North's, each from left to right as their owner sees them. */
-const LETTERS = ["ABCDEF", "abcdef"];
-
-/** The letter of a pit that the mover numbers so. */
-const letterOf = (pit, mover) => LETTERS[pit < 6 ? mover : 1 - mover][pit % 6];
-
-/** The name of a pit that the mover numbers so. */
-const pitName = (pit, mover, hasLetters) => hasLetters ? letterOf(pit, mover) : String(pit);
-return { letterOf, pitName };
-})();
-
-const module_words = (() => {
-// Numbers and names as the page writes them. Nothing here knows of the game or of the page.
-
-/** Player 0 and player 1. Who moves first is not said: a board may be set with either to move. */
-const SIDES = ["South", "North"];
-
-const grouped = number => String(number).replace(/\B(?=(\d{3})+$)/g, ",");
-
-const plural = (number, one, many = `${one}s`) => `${grouped(number)} ${number === 1 ? one : many}`;
-
-const plies = number => plural(number, "ply", "plies");
-
-const signed = value => value > 0 ? `+${value}` : value < 0 ? `−${-value}` : "0";
-
-/** The same for a voice, which may leave out a sign. */
-const spoken = value => value > 0 ? `plus ${value}` : value < 0 ? `minus ${-value}` : "0";
-
-const percent = (part, whole) => `${(100 * part / whole).toFixed(1)}%`;
-
-function sizeText(number) {
-  if (number < 1e4) return `${grouped(number)} bytes`;
-  if (number < 1e6) return `${Math.round(number / 1e3)} kB`;
-  if (number < 1e9) return `${(number / 1e6).toFixed(1)} MB`;
-  return `${(number / 1e9).toFixed(2)} GB`;
-}
-
-/** For whom a value is: the name of its colour, too. */
-const kindOf = value => value > 0 ? "won" : value < 0 ? "lost" : "even";
-return { SIDES, grouped, plural, plies, signed, spoken, percent, sizeText, kindOf };
-})();
-
-const module_verdict = (() => {
-// What boards and moves are worth, in words.
-
-const { endGain, isEnded, stonesOf } = module_rules;
-const { pitName } = module_letters;
-const { plies, plural, SIDES, signed, spoken } = module_words;
-
-const endsAhead = (lead, side) =>
-  lead === 0 ? "the two end level" : `${SIDES[lead > 0 ? side : 1 - side]} ends ${Math.abs(lead)} ahead`;
-
-/** How many stones a move threw away, and of what. */
-function wordsOfToll({ before, after, thrown }) {
-  if (thrown === 0) return `keeps the worth, ${signed(before)}`;
-  return `threw away ${plural(thrown, "stone")}: worth ${signed(before)} before, ${signed(after)} after`;
-}
-
-/** A heading and a sentence on what the board is worth. */
-function verdictOf({ state, weighed }) {
-  if (isEnded(state.board)) return verdictOfEnd(state);
-  const side = SIDES[state.mover];
-  if (!weighed?.entry) return [`${side} to move`, weighed?.fault?.message ?? ""];
-  const { value, distance } = weighed.entry, lead = leadOf(state);
-  const inAll = lead === 0 ? "" : `. With what was captured, ${endsAhead(lead + value, state.mover)}`;
-  if (value === 0) return [`${side} to move: even`, `Neither side can force a gain${inAll}`];
-  const winner = SIDES[value > 0 ? state.mover : 1 - state.mover], stones = plural(Math.abs(value), "stone");
-  return [
-    `${side} to move: ${value > 0 ? "gains" : "loses"} ${Math.abs(value)}`,
-    `${winner} can force ${stones} more, and a capture or the end within ${plies(distance)}${inAll}`,
-  ];
-}
-
-/** How much more the mover has captured so far. */
-const leadOf = ({ captured, mover }) => captured[mover] - captured[1 - mover];
-
-function verdictOfEnd(state) {
-  const { board, mover, move } = state, stones = stonesOf(board), gain = endGain(board);
-  const keeper = SIDES[gain > 0 ? mover : 1 - mover], last = stones === 1 ? "stone" : `${stones} stones`;
-  const keeps = stones === 0 ? "No stones are left" : `${keeper} keeps the last ${last}`;
-  return ["Play has ended", move ? `${keeps}; ${endsAhead(leadOf(state) + gain, mover)}` : keeps];
-}
-
-const spokenVerdict = shown => verdictOf(shown).filter(Boolean).join(". ");
-
-/** A grand slam and a capture, a value and a distance of a move, in words for a voice. */
-function wordsOfMove(move, hasHints) {
-  const worth = move.fault || move.value === undefined ? "its worth is not known" : `worth ${spoken(move.value)}`;
-  return [
-    move.captured ? `captures ${move.captured}` : move.isSlam ? "a grand slam, captures nothing" : "captures nothing",
-    ...(hasHints ? [worth] : []),
-    ...(move.distance ? [`within ${plies(move.distance)}`] : []),
-    ...(move.isPlan ? ["the plan"] : []),
-  ].join(", ");
-}
-
-// ---- puzzles ----
-
-/** What there is to do in a puzzle, or what came of it. South solves it. */
-function wordsOfPuzzle({ puzzle, hasLetters }) {
-  const { standing, value, gained, rightMoves, decided } = puzzle;
-  if (value === null) return "The levels are being asked.";
-  if (standing === "home") return `Solved: South has gained ${plural(gained, "stone")}, and threw nothing away.`;
-  if (standing === "round") return `This board was there before, so play goes round: ${gained} of ${value} are home.`;
-  if (standing === "lost") return wordsOfLoss(decided, hasLetters);
-  if (standing === "shown") return `Not solved. ${rightPits(decided, hasLetters)}`;
-  if (rightMoves > 0) return `Right so far: ${gained} of ${value} are home. South to move.`;
-  const { distance } = decided.weighed.entry;
-  return `South gains ${value} by one move alone, and another captures more. A capture or the end comes within ${plies(distance)}.`;
-}
-
-function wordsOfLoss({ weighed, costs, pit }, hasLetters) {
-  const before = weighed.entry.value, thrown = costs.thrown.get(pit);
-  const toll = wordsOfToll({ before, after: before - thrown, thrown });
-  return `Pit ${pitName(pit, 0, hasLetters)} ${toll}. ${rightPits({ costs }, hasLetters)}`;
-}
-
-function rightPits({ costs: { right } }, hasLetters) {
-  const names = right.map(pit => pitName(pit, 0, hasLetters));
-  return names.length === 1 ? `Right is pit ${names[0]}.` : `Right are pits ${names.join(", ")}.`;
-}
-return { wordsOfToll, verdictOf, spokenVerdict, wordsOfMove, wordsOfPuzzle };
-})();
-
-const module_game = (() => {
-// A game: what was played from a board, what each move threw away, and its text, as `awari judge` takes it.
-// Nothing here knows of files or of the page.
-
-const { parse, play, print, refusalOf } = module_rules;
-
-/**
- * @typedef {import("./rules.mjs").Board} Board
- *
- * @typedef {object} State
- * @property {Board} board as its mover sees it
- * @property {number} mover whose move it is: 0 South, 1 North
- * @property {number[]} captured what each side has captured
- * @property {import("./rules.mjs").Move | null} move the move that led here, null if the board was set up
- *
- * @typedef {object} Game
- * @property {Board} board the first, as its mover sees it
- * @property {number} mover who moves first
- * @property {number[]} pits what was played in turn
- *
- * @typedef {object} Toll what a move cost its mover
- * @property {number} before what the board was worth
- * @property {number} after what it is worth by this move
- * @property {number} thrown how much less that is
- */
-
-/** The greatest that `awari judge` takes: by it only the end of play is an outcome. */
-const GREATEST_LIMIT = 4294967295;
-
-/** A move of a game that is refused, and which one that is, from 1 on. */
-class MoveFault extends Error {
-  constructor(refused, at) {
-    super(`Move ${at}: ${refused.message}`);
-    this.number = refused.number;
-    this.fault = refused.fault;
-    this.at = at;
-  }
-}
-
-/**
- * @param {Board} board
- * @param {number} mover
- * @returns {State}
- */
-const stateOf = (board, mover) => ({ board, mover, captured: [0, 0], move: null });
-
-/**
- * @param {State} state
- * @param {number} pit
- * @returns {State}
- */
-function stateAfter(state, pit) {
-  const move = play(state.board, pit), captured = [...state.captured];
-  captured[state.mover] += move.captured;
-  return { board: move.next, mover: 1 - state.mover, captured, move };
-}
-
-/**
- * The states of a game, from its first board on. It is refused for the first move that can't be played.
- * @param {Game} game
- */
-function statesOf({ board, mover, pits }) {
-  const states = [stateOf(board, mover)];
-  for (const [index, pit] of pits.entries()) {
-    const refused = refusalOf(states[index].board, pit);
-    if (refused) throw new MoveFault(refused, index + 1);
-    states.push(stateAfter(states[index], pit));
-  }
-  return states;
-}
-
-// ---- what was thrown away ----
-
-/**
- * What each move of these states cost. Where a worth is not known, it is null.
- * @param {State[]} states
- * @param {(board: Board) => Promise<number | null>} valueOf
- * @returns {Promise<(Toll | null)[]>}
- */
-async function tollsOf(states, valueOf) {
-  const values = await Promise.all(states.map(({ board }) => valueOf(board)));
-  return states.slice(1).map(({ move }, index) => {
-    const before = values[index], next = values[index + 1];
-    if (before === null || next === null) return null;
-    const after = move.captured - next;
-    return { before, after, thrown: before - after };
-  });
-}
-
-/**
- * How many stones each side threw away in all.
- * @param {State[]} states
- * @param {(Toll | null)[]} tolls
- */
-function thrownBySides(states, tolls) {
-  const thrown = [0, 0];
-  for (const [index, toll] of tolls.entries()) thrown[states[index].mover] += toll?.thrown ?? 0;
-  return thrown;
-}
-
-// ---- text ----
-
-/**
- * A game as the words of `awari judge`: its first board, a limit, and the moves. They don't say who is South.
- * @param {Game} game
- */
-const printGame = ({ board, pits }, limit = GREATEST_LIMIT) => [print(board), limit, ...pits].join(" ");
-
-/**
- * Reads such words, with the name of the command or without it. A board alone is a game of no moves. South
- * moves first.
- * @returns {Game}
- */
-function parseGame(text) {
-  const [board, limit, ...moves] = text.trim().replace(/^(\$\s+)?\S*awari\s+judge\s+/, "").split(/\s+/);
-  const game = { board: parse(board), mover: 0, pits: pitsOf(moves.join("")) };
-  if (limit !== undefined && !(/^\d+$/.test(limit) && Number(limit) <= GREATEST_LIMIT))
-    throw new Error(`“${limit}” is no limit. That comes after the board, 0 to ${GREATEST_LIMIT}, and then the moves`);
-  statesOf(game);
-  return game;
-}
-
-/** The pits of moves, a digit each. What is none stays as it is, and is refused in its turn. */
-const pitsOf = moves => [...moves].map(move => /[0-9]/.test(move) ? Number(move) : move);
-return { MoveFault, stateOf, stateAfter, statesOf, tollsOf, thrownBySides, printGame, parseGame, pitsOf };
-})();
-
-const module_opponent = (() => {
-// The opponent: it plays for one side or for both, by what the table says. Nothing here knows of the page.
-
-/** How long it waits, so that one sees what was played before. */
-const MILLISECONDS_OF_A_REPLY = 700;
-
-/**
- * A move with what it is worth, or why that is not known.
- * @typedef {{ pit: number, value: number, distance: number, isPlan?: boolean, fault?: Error }} WorthyMove
- */
-
-/**
- * The order of the table of moves, the best first: by worth; then the winner hurries and the loser holds out.
- * A move whose worth is not known comes last.
- * @param {WorthyMove} one
- * @param {WorthyMove} other
- */
-function compareMoves(one, other) {
-  return Number(Boolean(one.fault)) - Number(Boolean(other.fault))
-    || other.value - one.value
-    || (one.value > 0 ? one.distance - other.distance : other.distance - one.distance)
-    || Number(Boolean(other.isPlan)) - Number(Boolean(one.isPlan))
-    || one.pit - other.pit;
-}
-
-/**
- * The pit that the table plays, or null if there is none or the worth of a move is not known.
- * @param {WorthyMove[]} moves
- */
-function tableMove(moves) {
-  const [first] = [...moves].sort(compareMoves);
-  return first && !moves.some(({ fault }) => fault) ? first.pit : null;
-}
-
-/** It rests while one goes to and fro in a game, and goes on once a move is played by hand. */
-class Opponent {
-  /** Whether it plays South, and whether it plays North. */
-  sides = [false, false];
-  isResting = false;
-  #timer = null;
-
-  /**
-   * @param {(pit: number) => void} play
-   * @param {{ setTimeout: Function, clearTimeout: Function }} clock the timers: of the page, or of a test
-   */
-  constructor(play, clock = globalThis) {
-    this.play = play;
-    this.clock = clock;
-  }
-
-  /** Whether a reply is on its way. */
-  get isThinking() { return this.#timer !== null; }
-
-  /** Whether its move comes next, now or once it has rested. */
-  isDue({ mover }) { return this.sides[mover]; }
-
-  setSides(south, north) {
-    this.sides = [south, north];
-    this.isResting = false;
-  }
-
-  rest() {
-    this.stop();
-    this.isResting = true;
-  }
-
-  wake() { this.isResting = false; }
-
-  stop() {
-    this.clock.clearTimeout(this.#timer);
-    this.#timer = null;
-  }
-
-  /** Replies to the state that is shown, if it is its turn and the worths of all moves are known. */
-  consider(state, moves) {
-    this.stop();
-    const pit = tableMove(moves);
-    if (pit === null || this.isResting || !this.isDue(state)) return;
-    this.#timer = this.clock.setTimeout(() => {
-      this.#timer = null;
-      this.play(pit);
-    }, MILLISECONDS_OF_A_REPLY);
-  }
-}
-return { compareMoves, tableMove, Opponent };
-})();
-
-const module_worth_view = (() => {
-// What the board that is shown is worth: a verdict, the table of moves, the best line, and what was played.
-
-const { button, element, refill } = module_elements;
-const { thrownBySides } = module_game;
-const { pitName } = module_letters;
-const { compareMoves } = module_opponent;
-const { endGain, isEnded, legalPits, play } = module_rules;
-const { verdictOf, wordsOfMove, wordsOfToll } = module_verdict;
-const { grouped, kindOf, plies, SIDES, signed } = module_words;
-
-/** More plies of a line than this are counted, and not shown. */
-const MOST_PLIES_SHOWN = 400;
-
-function makeVerdict(shown) {
-  const { state, weighed, hasHints } = shown, hasEnded = isEnded(state.board);
-  const [title, text] = verdictOf(shown);
-  const value = hasEnded ? endGain(state.board) : weighed?.entry?.value;
-  const kind = value === undefined ? "open" : kindOf(value);
-  return element("div", { class: "verdict" },
-    element("div", { class: `value-box ${kind}` },
-      element("span", { id: "value" }, value === undefined ? "?" : signed(value)),
-      element("small", {}, `for ${SIDES[state.mover]}`)),
-    element("div", {},
-      element("b", {}, title),
-      element("p", {}, hasHints || hasEnded ? text && `${text}.` : "Hints are off.")));
-}
-
-// ---- the table of moves ----
-
-function makeMovesTable(shown, hands) {
-  const { state: { board }, weighed, hasHints } = shown;
-  const moves = weighed
-    ? [...weighed.moves].sort(compareMoves)
-    : legalPits(board).map(pit => play(board, pit));
-  const names = ["Move", "Captures", ...(hasHints ? ["Value", "Within"] : [])];
-  const heads = names.map(text => element("th", { scope: "col" }, text));
-  const planHead = element("th", { scope: "col" }, element("span", { class: "unseen" }, "Plan"));
-  return element("table", { id: "moves" },
-    element("caption", { class: "unseen" }, hasHints ? "The legal moves, the best first" : "The legal moves"),
-    element("thead", {}, element("tr", {}, ...heads, hasHints && planHead)),
-    element("tbody", {}, ...moves.map(move => makeMoveRow(move, shown, hands))));
-}
-
-function makeMoveRow(move, { state: { mover }, hasHints, hasLetters }, hands) {
-  const name = pitName(move.pit, mover, hasLetters), label = `Play pit ${name}, ${wordsOfMove(move, hasHints)}`;
-  const playButton = element("button", { type: "button", class: "button", "aria-label": label }, `Pit ${name}`);
-  const slam = element("span", { title: "A grand slam: it would take all, and takes nothing" }, "0 (slam)");
-  const row = element("tr", { "data-pit": move.pit },
-    element("td", {}, playButton),
-    element("td", { class: "captures" }, move.isSlam ? slam : String(move.captured)),
-    ...(hasHints ? makeWorthCells(move) : []));
-  row.addEventListener("click", () => hands.play(move.pit));
-  for (const event of ["pointerenter", "focusin"]) row.addEventListener(event, () => hands.preview(move.pit));
-  for (const event of ["pointerleave", "focusout"]) row.addEventListener(event, () => hands.preview(null));
-  return row;
-}
-
-function makeWorthCells(move) {
-  const isKnown = move.value !== undefined && !move.fault;
-  const value = isKnown
-    ? element("span", { class: `value ${kindOf(move.value)}` }, signed(move.value))
-    : element("span", { class: "soft" }, "?");
-  return [
-    element("td", {}, value),
-    element("td", { class: "within" }, ...(isKnown ? withinOf(move) : [])),
-    element("td", { class: "plan-mark" }, move.isPlan && "plan"),
-  ];
-}
-
-/** The distance. A narrow table has no room for the word behind it. */
-const withinOf = ({ distance }) => distance
-  ? [grouped(distance), element("span", { class: "wide" }, distance === 1 ? " ply" : " plies")]
-  : ["–"];
-
-// ---- what is wrong with it ----
-
-function makeRemarks({ weighed, record }) {
-  const remarks = [], unknown = weighed?.moves.find(move => move.fault);
-  if (weighed?.broken)
-    remarks.push(element("p", { class: "status wrong", role: "alert" },
-      element("b", {}, "The files are wrong here. "),
-      `The entry of this board breaks rule ${weighed.broken} beside those of its moves. See `,
-      element("code", {}, "awari verify FOLDER"), "."));
-  if (weighed?.entry && unknown) remarks.push(element("p", { class: "small bad" }, `${unknown.fault.message}.`));
-  if (record.isRepeated)
-    remarks.push(element("p", { class: "small soft" },
-      "This board was there before. Play that goes on for ever without a capture gains neither side anything."));
-  return remarks;
-}
-
-/** While the entries are being read, what was there before stays, but faint: nothing flickers. */
-function drawWorth(box, shown, hands) {
-  const isWaiting = !shown.weighed && !isEnded(shown.state.board) && shown.hasHints;
-  box.setAttribute("aria-busy", String(!shown.weighed && shown.hasHints));
-  box.classList.toggle("waiting", isWaiting && box.childElementCount > 0);
-  if (isWaiting && box.childElementCount > 0) return;
-  const hasMoves = !isEnded(shown.state.board);
-  refill(box, [makeVerdict(shown), ...(hasMoves ? [makeMovesTable(shown, hands)] : []), ...makeRemarks(shown)]);
-}
-
-/** Whether the proved code says what is shown. */
-function drawStanding(box, { weighed, hasHints }) {
-  if (!weighed && hasHints) return; // what was there before stays, as the worth does
-  box.className = `standing ${weighed?.isProved ? "proved" : ""}`;
-  box.textContent = weighed?.isProved ? "by the proved code" : weighed?.entry ? "not verified" : "";
-}
-
-// ---- plies ----
-
-/**
- * A move as a button: its pit, what it captured, and what it threw away.
- * @param {{ pit: number, captured: number }} ply
- * @param {number} mover
- * @param {{ label: string, action: () => void, hasLetters: boolean, toll?: import("./game.mjs").Toll | null }} more
- * @param {{ class?: string, "aria-current"?: string | false }} attributes
- */
-function makePly({ pit, captured }, mover, { label, action, hasLetters, toll }, attributes = {}) {
-  const side = SIDES[mover], name = pitName(pit, mover, hasLetters);
-  const captures = captured ? `, captures ${captured}` : "", cost = toll?.thrown ? `, ${wordsOfToll(toll)}` : "";
-  const all = {
-    ...attributes,
-    class: `${side.toLowerCase()} ${attributes.class ?? ""}`,
-    title: toll && wordsOfToll(toll),
-    "aria-label": `${label}: ${side}, pit ${name}${captures}${cost}`,
-  };
-  return element("li", {}, button(all, action, name,
-    captured > 0 && element("small", {}, `×${captured}`),
-    toll?.thrown > 0 && element("small", { class: "thrown" }, signed(-toll.thrown))));
-}
-
-function drawLine(box, shown, hands) {
-  const { line, hasHints, hasLetters } = shown, isWaiting = !line && hasHints;
-  box.setAttribute("aria-busy", String(isWaiting));
-  box.classList.toggle("waiting", isWaiting);
-  if (isWaiting) return;
-  if (!line || line.fault) return box.replaceChildren(element("p", { class: "small soft" }, whyNoLine(shown)));
-  const plyList = line.plies.slice(0, MOST_PLIES_SHOWN);
-  refill(box, [
-    ...(plyList.length ? [makePlies(plyList, { mover: shown.state.mover, hasLetters, follow: hands.follow })] : []),
-    element("p", { class: "outcome" }, outcomeText(line, plyList.length, shown.state.mover)),
-    ...makeLineRemarks(line),
-  ]);
-}
-
-/**
- * The plies of a line, which this side begins. Each goes to where it leads.
- * @param {{ pit: number, captured: number }[]} list
- * @param {{ mover: number, hasLetters: boolean, follow: (plies: object[]) => void }} how
- */
-function makePlies(list, { mover, hasLetters, follow }) {
-  return element("ol", { class: "plies" }, ...list.map((ply, index) => makePly(ply, (mover + index) % 2, {
-    label: `Go to ply ${index + 1} of the line`, action: () => follow(list.slice(0, index + 1)), hasLetters,
-  })));
-}
-
-function whyNoLine({ line, weighed, hasHints }) {
-  if (!hasHints) return "Hints are off.";
-  return weighed?.fault ? "There is no line without the entry of this board." : `${line.fault.message}.`;
-}
-
-function outcomeText(line, shownPlies, mover) {
-  const gains = line.outcome === 0 ? "neither side gains"
-    : `${SIDES[line.outcome > 0 ? mover : 1 - mover]} gains ${Math.abs(line.outcome)}`;
-  const hidden = line.plies.length - shownPlies, more = hidden > 0 ? ` (${plies(hidden)} more)` : "";
-  if (line.ended && line.plies.length === 0) return `Play has ended: ${gains}.`;
-  if (line.ended) return `Play ends after ${plies(line.plies.length)}${more}: ${gains}.`;
-  if (line.repeats !== null) return `From ply ${line.repeats + 1} on the play repeats for ever${more}: ${gains}.`;
-  return `No capture comes any more${more}: ${gains}.`;
-}
-
-function makeLineRemarks({ outcome, value }) {
-  if (outcome === value) return [];
-  const text = `The plans come to ${signed(outcome)}, and the value is ${signed(value)}: the files are wrong.`;
-  return [element("p", { class: "bad small", role: "alert" }, text)];
-}
-
-/** The moves of the play that is shown, its score, and what was thrown away. */
-function drawPlayed({ card, list, score, told }, { record, state, tolls, hasLetters }, hands) {
-  const { start, end, at } = record;
-  card.hidden = start === end;
-  const items = record.states.slice(start + 1, end + 1).map((to, offset) => {
-    const index = start + 1 + offset, toll = tolls.get(to);
-    const attributes = { class: index > at ? "later" : "", "aria-current": index === at && "step" };
-    const ply = { label: `Go to ply ${offset + 1}`, action: () => hands.go(index), hasLetters, toll };
-    return makePly(to.move, 1 - to.mover, ply, attributes);
-  });
-  refill(list, items, "[aria-current]");
-  scrollTo(list, list.querySelector("[aria-current]"));
-  score.textContent = `South ${state.captured[0]} : ${state.captured[1]} North`;
-  told.textContent = thrownText(record.states.slice(start, at + 1), tolls, hasLetters);
-}
-
-/** Scrolls a list, and not the page, so that an element is in its middle. */
-function scrollTo(list, element) {
-  if (element) list.scrollTop = element.offsetTop - list.offsetTop - list.clientHeight / 2;
-}
-
-/** What the last of these moves cost, and what both sides threw away by all of them. */
-function thrownText(states, tolls, hasLetters) {
-  const { move, mover } = states.at(-1), toll = tolls.get(states.at(-1));
-  if (!move || !toll) return "";
-  const last = `${SIDES[1 - mover]}’s pit ${pitName(move.pit, 1 - mover, hasLetters)} ${wordsOfToll(toll)}.`;
-  const [south, north] = thrownBySides(states, states.slice(1).map(state => tolls.get(state) ?? null));
-  return south + north === 0 ? last : `${last} In all South threw away ${south} and North ${north}.`;
-}
-return { drawWorth, drawStanding, drawLine, makePlies, drawPlayed };
-})();
-
 const module_puzzle_view = (() => {
 // The card of puzzles: which one is wanted, what there is to do, what came of it, and the streak.
 
 const { byId, element, refill } = module_elements;
+const { makeLinePlies } = module_plies_view;
 const { LEAST_LEVEL, marginOf } = module_puzzle;
 const { wordsOfPuzzle } = module_verdict;
-const { makePlies } = module_worth_view;
 
 /** @typedef {import("./session.mjs").Shown} Shown */
 
@@ -1968,7 +1586,7 @@ class PuzzleView {
     if (plies.length === 0) return byId("puzzle-line").replaceChildren();
     refill(byId("puzzle-line"), [
       element("p", { class: "small soft" }, "The line of both sides’ best moves:"),
-      makePlies(plies, { mover: 0, hasLetters, follow: this.hands.follow }),
+      element("ol", { class: "plies" }, ...makeLinePlies(plies, { mover: 0, hasLetters, follow: this.hands.follow })),
     ]);
   }
 }
@@ -2446,7 +2064,8 @@ async function askOnce(place, from, to, take, whole) {
   const control = new AbortController(), headers = { Range: `bytes=${from}-${to - 1}` };
   let milliseconds = patience.request, timer = setTimeout(() => control.abort(), milliseconds);
   try {
-    const answer = await fetch(place, { headers, redirect: "manual", signal: control.signal });
+    // a browser's cache would let parts of one file wait for each other
+    const answer = await fetch(place, { headers, cache: "no-store", redirect: "manual", signal: control.signal });
     const { status, statusText } = answer;
     clearTimeout(timer);
     milliseconds += (status === 200 ? whole : to - from) / patience.bytesAMillisecond;
@@ -2528,7 +2147,8 @@ function foundListed(folder, listed) {
 /** The levels of a folder's index, none if it has none that can be read. */
 async function indexOf(folder) {
   try {
-    const answer = await fetch(new URL(INDEX, folder), { cache: "no-store", signal: AbortSignal.timeout(patience.request) });
+    const signal = /** @type {any} */ (AbortSignal).timeout(patience.request);
+    const answer = await fetch(new URL(INDEX, folder), { cache: "no-store", signal });
     return answer.ok ? listedIn(new TextDecoder().decode(await bytesUpTo(answer, MOST_INDEX_BYTES))) : [];
   } catch {
     return [];
@@ -2806,6 +2426,133 @@ function drawExamples(figures, hands) {
 return { drawExamples };
 })();
 
+const module_game = (() => {
+// A game: what was played from a board, what each move threw away, and its text, as `awari judge` takes it.
+// Nothing here knows of files or of the page.
+
+const { parse, play, print, refusalOf } = module_rules;
+
+/**
+ * @typedef {import("./rules.mjs").Board} Board
+ *
+ * @typedef {object} State
+ * @property {Board} board as its mover sees it
+ * @property {number} mover whose move it is: 0 South, 1 North
+ * @property {number[]} captured what each side has captured
+ * @property {import("./rules.mjs").Move | null} move the move that led here, null if the board was set up
+ *
+ * @typedef {object} Game
+ * @property {Board} board the first, as its mover sees it
+ * @property {number} mover who moves first
+ * @property {number[]} pits what was played in turn
+ *
+ * @typedef {object} Toll what a move cost its mover
+ * @property {number} before what the board was worth
+ * @property {number} after what it is worth by this move
+ * @property {number} thrown how much less that is
+ */
+
+/** The greatest that `awari judge` takes: by it only the end of play is an outcome. */
+const GREATEST_LIMIT = 4294967295;
+
+/** A move of a game that is refused, and which one that is, from 1 on. */
+class MoveFault extends Error {
+  constructor(refused, at) {
+    super(`Move ${at}: ${refused.message}`);
+    this.number = refused.number;
+    this.fault = refused.fault;
+    this.at = at;
+  }
+}
+
+/**
+ * @param {Board} board
+ * @param {number} mover
+ * @returns {State}
+ */
+const stateOf = (board, mover) => ({ board, mover, captured: [0, 0], move: null });
+
+/**
+ * @param {State} state
+ * @param {number} pit
+ * @returns {State}
+ */
+function stateAfter(state, pit) {
+  const move = play(state.board, pit), captured = [...state.captured];
+  captured[state.mover] += move.captured;
+  return { board: move.next, mover: 1 - state.mover, captured, move };
+}
+
+/**
+ * The states of a game, from its first board on. It is refused for the first move that can't be played.
+ * @param {Game} game
+ */
+function statesOf({ board, mover, pits }) {
+  const states = [stateOf(board, mover)];
+  for (const [index, pit] of pits.entries()) {
+    const refused = refusalOf(states[index].board, pit);
+    if (refused) throw new MoveFault(refused, index + 1);
+    states.push(stateAfter(states[index], pit));
+  }
+  return states;
+}
+
+// ---- what was thrown away ----
+
+/**
+ * What each move of these states cost. Where a worth is not known, it is null.
+ * @param {State[]} states
+ * @param {(board: Board) => Promise<number | null>} valueOf
+ * @returns {Promise<(Toll | null)[]>}
+ */
+async function tollsOf(states, valueOf) {
+  const values = await Promise.all(states.map(({ board }) => valueOf(board)));
+  return states.slice(1).map(({ move }, index) => {
+    const before = values[index], next = values[index + 1];
+    if (before === null || next === null) return null;
+    const after = move.captured - next;
+    return { before, after, thrown: before - after };
+  });
+}
+
+/**
+ * How many stones each side threw away in all.
+ * @param {State[]} states
+ * @param {(Toll | null)[]} tolls
+ */
+function thrownBySides(states, tolls) {
+  const thrown = [0, 0];
+  for (const [index, toll] of tolls.entries()) thrown[states[index].mover] += toll?.thrown ?? 0;
+  return thrown;
+}
+
+// ---- text ----
+
+/**
+ * A game as the words of `awari judge`: its first board, a limit, and the moves. They don't say who is South.
+ * @param {Game} game
+ */
+const printGame = ({ board, pits }, limit = GREATEST_LIMIT) => [print(board), limit, ...pits].join(" ");
+
+/**
+ * Reads such words, with the name of the command or without it. A board alone is a game of no moves. South
+ * moves first.
+ * @returns {Game}
+ */
+function parseGame(text) {
+  const [board, limit, ...moves] = text.trim().replace(/^(\$\s+)?\S*awari\s+judge\s+/, "").split(/\s+/);
+  const game = { board: parse(board), mover: 0, pits: pitsOf(moves.join("")) };
+  if (limit !== undefined && !(/^\d+$/.test(limit) && Number(limit) <= GREATEST_LIMIT))
+    throw new Error(`“${limit}” is no limit. That comes after the board, 0 to ${GREATEST_LIMIT}, and then the moves`);
+  statesOf(game);
+  return game;
+}
+
+/** The pits of moves, a digit each. What is none stays as it is, and is refused in its turn. */
+const pitsOf = moves => [...moves].map(move => /[0-9]/.test(move) ? Number(move) : move);
+return { MoveFault, stateOf, stateAfter, statesOf, tollsOf, thrownBySides, printGame, parseGame, pitsOf };
+})();
+
 const module_kept = (() => {
 // The files of levels that the browser keeps until they are cleared. A browser may refuse: then it keeps none.
 
@@ -2887,6 +2634,7 @@ const notListed = number => new Fault(80, "Below", `${nameOf(number)} is another
 const KEPT_ENTRIES = 20000;
 
 class Shelf {
+  /** The entries that were read or are being read, by the words of their boards. */
   #kept = new Map();
   /** The levels that are being tried again, by their numbers. */
   #trying = new Map();
@@ -3022,9 +2770,10 @@ class Shelf {
     await this.#trying.get(stones);
     const level = this.#levelOf(stones), word = print(board);
     if (!this.#kept.has(word)) {
-      const [entry] = await Promise.all([this.#read(level, board), this.#look(stones)]);
+      const reading = Promise.all([this.#read(level, board), this.#look(stones)]).then(([entry]) => entry);
       if (this.#kept.size >= KEPT_ENTRIES) this.#kept.clear();
-      this.#kept.set(word, entry);
+      this.#kept.set(word, reading);
+      reading.catch(() => this.#kept.delete(word));
     }
     return this.#kept.get(word);
   }
@@ -3138,6 +2887,8 @@ class Library {
   settled = Promise.resolve();
   /** Until the first levels are there. */
   isStarting = true;
+  /** Until the levels of the page's server are there. */
+  isHosting = false;
   /** Whether more was built, now or earlier, than the page builds by itself. */
   hasBuilt = false;
   /** Whether the browser keeps it. */
@@ -3198,6 +2949,9 @@ class Library {
   }
 
   // ---- what is told ----
+
+  /** Whether a level may come at once, so that nobody can say that it is not there. */
+  isAwaited(number) { return this.isStarting || (this.isHosting && !this.shelf.slots[number]); }
 
   /** How many levels are right, from level 0 up. */
   get length() { return this.#right.length; }
@@ -3360,7 +3114,11 @@ class Library {
    * @param {import("./hosted.mjs").Hosted} hosted
    */
   host(hosted) {
-    this.hosting = this.#host(hosted);
+    this.isHosting = true;
+    this.hosting = this.#host(hosted).finally(() => {
+      this.isHosting = false;
+      this.changed();
+    });
     return this.hosting;
   }
 
@@ -3511,6 +3269,93 @@ function unescaped(text) {
 return { printLink, parseLink };
 })();
 
+const module_opponent = (() => {
+// The opponent: it plays for one side or for both, by what the table says. Nothing here knows of the page.
+
+/** How long it waits, so that one sees what was played before. */
+const MILLISECONDS_OF_A_REPLY = 700;
+
+/**
+ * A move with what it is worth, or why that is not known.
+ * @typedef {{ pit: number, value: number, distance: number, isPlan?: boolean, fault?: Error }} WorthyMove
+ */
+
+/**
+ * The order of the table of moves, the best first: by worth; then the winner hurries and the loser holds out.
+ * A move whose worth is not known comes last.
+ * @param {WorthyMove} one
+ * @param {WorthyMove} other
+ */
+function compareMoves(one, other) {
+  return Number(Boolean(one.fault)) - Number(Boolean(other.fault))
+    || other.value - one.value
+    || (one.value > 0 ? one.distance - other.distance : other.distance - one.distance)
+    || Number(Boolean(other.isPlan)) - Number(Boolean(one.isPlan))
+    || one.pit - other.pit;
+}
+
+/**
+ * The pit that the table plays, or null if there is none or the worth of a move is not known.
+ * @param {WorthyMove[]} moves
+ */
+function tableMove(moves) {
+  const [first] = [...moves].sort(compareMoves);
+  return first && !moves.some(({ fault }) => fault) ? first.pit : null;
+}
+
+/** It rests while one goes to and fro in a game, and goes on once a move is played by hand. */
+class Opponent {
+  /** Whether it plays South, and whether it plays North. */
+  sides = [false, false];
+  isResting = false;
+  #timer = null;
+
+  /**
+   * @param {(pit: number) => void} play
+   * @param {{ setTimeout: Function, clearTimeout: Function }} clock the timers: of the page, or of a test
+   */
+  constructor(play, clock = globalThis) {
+    this.play = play;
+    this.clock = clock;
+  }
+
+  /** Whether a reply is on its way. */
+  get isThinking() { return this.#timer !== null; }
+
+  /** Whether its move comes next, now or once it has rested. */
+  isDue({ mover }) { return this.sides[mover]; }
+
+  setSides(south, north) {
+    this.sides = [south, north];
+    this.isResting = false;
+  }
+
+  rest() {
+    this.stop();
+    this.isResting = true;
+  }
+
+  wake() { this.isResting = false; }
+
+  stop() {
+    this.clock.clearTimeout(this.#timer);
+    this.#timer = null;
+  }
+
+  /** Replies to the state that is shown, if it is its turn and the worths of all moves are known. */
+  consider(state, moves) {
+    this.stop();
+    const pit = tableMove(moves);
+    if (pit === null || this.isResting || !this.isDue(state)) return;
+    this.#timer = this.clock.setTimeout(() => {
+      this.#timer = null;
+      this.play(pit);
+    }, MILLISECONDS_OF_A_REPLY);
+  }
+}
+return { compareMoves, tableMove, Opponent };
+})();
+
 const module_worths = (() => {
 // What boards are worth, and how play goes on: by the proved code where it knows a level, and else by its file.
 
@@ -3542,7 +3387,14 @@ const { LAST_PIT } = module_level_file;
  * @property {boolean} ended whether play ends with it
  * @property {number | null} repeats the ply after which the same pits come for ever
  * @property {number} outcome what the mover gains by it
+ * @property {boolean} [isGrowing] whether more plies are to come
  */
+
+/**
+ * Whether something of a board is not known.
+ * @param {Weighed | null} weighed
+ */
+const hasFault = weighed => Boolean(weighed && (weighed.fault || weighed.moves.some(({ fault }) => fault)));
 
 /**
  * The entry of a board, and its moves with their worths. A fault stands in the place of what can't be read.
@@ -3608,15 +3460,16 @@ function isDistance(distance, value, planned, moves) {
  * after which that stood, as `awari line --plies` tells it.
  * @param {Shelf} shelf
  * @param {Board} board
+ * @param {(plies: Line["plies"]) => boolean} goOn hears each ply of a level that is read, and says whether more are wanted
  * @returns {Promise<Line>}
  */
-async function bestLine(shelf, board) {
+async function bestLine(shelf, board, goOn = () => true) {
   if (shelf.knows(board)) {
     const { moves, outcome } = await shelf.proved.ask("line", board);
-    return { ...await walk(board, async (_, ply) => moves[ply] ?? null), value: outcome, outcome };
+    return { ...await walk(board, async (_, ply) => moves[ply] ?? null, () => true), value: outcome, outcome };
   }
   const { value } = await shelf.entry(board), limit = shelf.limitTo(stonesOf(board));
-  return { ...await walk(board, (at, _, quiet) => quiet > limit ? null : planOf(shelf, at)), value };
+  return { ...await walk(board, (at, _, quiet) => quiet > limit ? null : planOf(shelf, at), goOn), value };
 }
 
 async function planOf(shelf, board) {
@@ -3626,13 +3479,13 @@ async function planOf(shelf, board) {
   return plan;
 }
 
-/** Plays what `pitAt` gives for a board, a ply and how many plies captured nothing, up to null. */
-async function walk(board, pitAt) {
+/** Plays what `pitAt` gives for a board, a ply and how many plies captured nothing, up to null or as long as wanted. */
+async function walk(board, pitAt, goOn) {
   const plies = [], met = new Map();
   let running = 0, side = 1, quiet = 0, repeats = null;
   while (!isEnded(board) && repeats === null) {
     const pit = await pitAt(board, plies.length, quiet);
-    if (pit === null) break;
+    if (pit === null || !goOn(plies)) break;
     met.set(print(board), plies.length);
     const { captured, next } = play(board, pit);
     plies.push({ pit, captured });
@@ -3645,7 +3498,7 @@ async function walk(board, pitAt) {
   const outcome = running + (isEnded(board) ? side * endGain(board) : 0);
   return { plies, ended: isEnded(board), repeats, outcome };
 }
-return { weigh, worthOf, brokenRule, bestLine };
+return { hasFault, weigh, worthOf, brokenRule, bestLine };
 })();
 
 const module_puzzler = (() => {
@@ -3992,7 +3845,7 @@ const { Solving } = module_solving;
 const { Streak } = module_streak;
 const { spokenVerdict, wordsOfPuzzle } = module_verdict;
 const { plural, SIDES } = module_words;
-const { bestLine, weigh } = module_worths;
+const { bestLine, hasFault, weigh } = module_worths;
 
 /**
  * @typedef {import("./rules.mjs").Board} Board
@@ -4003,7 +3856,7 @@ const { bestLine, weigh } = module_worths;
  * @property {Record} record what was set up and played
  * @property {import("./game.mjs").State} state that of the record which is shown
  * @property {Weighed | null} weighed what its board is worth, null while that is being asked
- * @property {Line | { fault: Error } | null} line the best line, null while that is being asked
+ * @property {Line | { fault: Error } | null} line the best line so far, null while that is being asked
  * @property {number} below the side whose pits lie in the lower row
  * @property {boolean} keepsMoverBelow whether that is always the mover's
  * @property {import("./shelf.mjs").Shelf} shelf the levels that are there
@@ -4020,7 +3873,8 @@ const { bestLine, weigh } = module_worths;
  *
  * @typedef {object} Listener draws what has changed, and tells what is said
  * @property {(shown: Shown) => void} drawState another state is shown, without its worth yet
- * @property {(shown: Shown) => void} drawWorth its worth or its line has come
+ * @property {(shown: Shown) => void} drawWorth its worth has come
+ * @property {(shown: Shown) => void} drawLine its line has come, or more of it
  * @property {(shown: Shown) => void} drawBoard the board lies otherwise, or is being edited
  * @property {(shown: Shown) => void} drawLevels other levels are there
  * @property {(shown: Shown) => void} drawWork levels are being built or verified, or are not any more
@@ -4036,6 +3890,7 @@ const { bestLine, weigh } = module_worths;
 const FIRST_BOARD = "1,0,0,0,0,1/1,0,1,0,0,0";
 const MILLISECONDS_A_PLY = 950;
 const MILLISECONDS_TO_THE_FIRST = 150;
+const MILLISECONDS_BETWEEN_DRAWINGS = 50;
 
 class Session {
   /** @type {Listener} */
@@ -4089,7 +3944,7 @@ class Session {
 
   async #weigh() {
     const mine = ++this.#turn, { shown } = this;
-    if (this.library.isStarting) return; // it is told once there are levels
+    if (this.library.isAwaited(stonesOf(shown.state.board))) return; // it is told once it has come
     const weighed = await weigh(shown.shelf, shown.state.board).catch(() => null);
     if (mine !== this.#turn || !weighed) return;
     shown.weighed = weighed;
@@ -4101,13 +3956,24 @@ class Session {
     this.#showTolls();
   }
 
-  /** The line comes later, since it may be long. Nobody waits for it. */
+  /** The line comes later and grows, since it may be long. Nobody waits for it. */
   async #showLine(mine) {
     const { shown } = this;
-    const line = await bestLine(shown.shelf, shown.state.board).catch(fault => ({ fault }));
-    if (mine !== this.#turn) return;
-    shown.line = line;
-    this.listener.drawWorth(this.seen);
+    let drawn = performance.now();
+    const goOn = plies => {
+      if (mine !== this.#turn) return false;
+      if (performance.now() - drawn < MILLISECONDS_BETWEEN_DRAWINGS) return true;
+      drawn = performance.now();
+      this.#drawLine({ plies, isGrowing: true });
+      return true;
+    };
+    const line = await bestLine(shown.shelf, shown.state.board, goOn).catch(fault => ({ fault }));
+    if (mine === this.#turn) this.#drawLine(line);
+  }
+
+  #drawLine(line) {
+    this.shown.line = line;
+    this.listener.drawLine(this.seen);
   }
 
   async #showTolls() {
@@ -4506,8 +4372,17 @@ class Session {
   #takeLevels() {
     this.shown.shelf = this.library.shelf;
     this.listener.drawLevels(this.shown);
-    if (this.shown.line && "fault" in this.shown.line) this.shown.line = null; // it may have come with them
+    this.#forgetFaults();
     this.#weigh();
+  }
+
+  /** What was not known may have come with them. */
+  #forgetFaults() {
+    const { shown } = this;
+    if (shown.line && "fault" in shown.line) this.#drawLine(null);
+    if (!hasFault(shown.weighed)) return;
+    shown.weighed = null;
+    this.listener.drawWorth(this.seen);
   }
 
   /** @param {{ files: File[], name: string }} chosen the files, and the name of their folder if it has one */
@@ -5304,6 +5179,87 @@ class LevelsView {
 return { LevelsView };
 })();
 
+const module_line_view = (() => {
+// The best line from the board that is shown. It grows as it comes, and a ply that has the keyboard keeps it.
+
+const { element, refill } = module_elements;
+const { makeLinePlies } = module_plies_view;
+const { plies, SIDES, signed } = module_words;
+
+/** @typedef {import("./session.mjs").Shown} Shown */
+
+/** More plies of a line than this are counted, and not shown. */
+const MOST_PLIES_SHOWN = 400;
+
+class LineView {
+  /** What the list is of, and the list. */
+  #state = null;
+  #hasLetters = false;
+  #list = null;
+
+  /**
+   * @param {HTMLElement} box
+   * @param {{ follow: (plies: object[]) => void }} hands
+   */
+  constructor(box, hands) {
+    this.box = box;
+    this.hands = hands;
+  }
+
+  /**
+   * While nothing has come, the line before stays, but faint; what was wrong with it goes.
+   * @param {Shown} shown
+   */
+  draw(shown) {
+    const line = /** @type {any} */ (shown.line), isWaiting = !line && shown.hasHints;
+    this.box.setAttribute("aria-busy", String(isWaiting || Boolean(line?.isGrowing)));
+    this.box.classList.toggle("waiting", isWaiting);
+    if (isWaiting && this.#list) return;
+    if (line && !line.fault) return this.#drawPlies(shown);
+    this.#list = this.#state = null;
+    const text = isWaiting ? "The line is being asked." : whyNoLine(shown);
+    this.box.replaceChildren(element("p", { class: "small soft" }, text));
+  }
+
+  #drawPlies(shown) {
+    const { line, state, hasLetters } = shown, list = line.plies.slice(0, MOST_PLIES_SHOWN);
+    const isSame = state === this.#state && hasLetters === this.#hasLetters && this.#list.childElementCount <= list.length;
+    if (!isSame) this.#list = element("ol", { class: "plies" });
+    const how = { mover: state.mover, hasLetters, follow: this.hands.follow };
+    this.#list.append(...makeLinePlies(list, how, this.#list.childElementCount));
+    this.#list.hidden = list.length === 0;
+    const told = [element("p", { class: "outcome" }, outcomeText(line, list.length, state.mover)), ...makeLineRemarks(line)];
+    if (isSame) this.#list.nextElementSibling.replaceChildren(...told);
+    else refill(this.box, [this.#list, element("div", {}, ...told)]);
+    this.#state = state;
+    this.#hasLetters = hasLetters;
+  }
+}
+
+function whyNoLine({ line, weighed, hasHints }) {
+  if (!hasHints) return "Hints are off.";
+  return weighed?.fault ? "There is no line without the entry of this board." : `${line.fault.message}.`;
+}
+
+function outcomeText(line, shownPlies, mover) {
+  if (line.isGrowing) return `${plies(line.plies.length)} so far.`;
+  const gains = line.outcome === 0 ? "neither side gains"
+    : `${SIDES[line.outcome > 0 ? mover : 1 - mover]} gains ${Math.abs(line.outcome)}`;
+  const hidden = line.plies.length - shownPlies, more = hidden > 0 ? ` (${plies(hidden)} more)` : "";
+  if (line.ended && line.plies.length === 0) return `Play has ended: ${gains}.`;
+  if (line.ended) return `Play ends after ${plies(line.plies.length)}${more}: ${gains}.`;
+  if (line.repeats !== null) return `From ply ${line.repeats + 1} on the play repeats for ever${more}: ${gains}.`;
+  return `No capture comes any more${more}: ${gains}.`;
+}
+
+function makeLineRemarks({ outcome, value, isGrowing }) {
+  if (isGrowing || outcome === value) return [];
+  const text = `The plans come to ${signed(outcome)}, and the value is ${signed(value)}: the files are wrong.`;
+  return [element("p", { class: "bad small", role: "alert" }, text)];
+}
+return { LineView };
+})();
+
 const module_more_view = (() => {
 // The card by which more levels come: how many are to be built, how far the work is, and what is kept and saved.
 
@@ -5514,6 +5470,155 @@ function showSheet(isShown) {
 return { drawSheet, showSheet };
 })();
 
+const module_worth_view = (() => {
+// What the board that is shown is worth: a verdict and the table of moves; and what was played.
+
+const { element, refill } = module_elements;
+const { thrownBySides } = module_game;
+const { pitName } = module_letters;
+const { compareMoves } = module_opponent;
+const { makePly } = module_plies_view;
+const { endGain, isEnded, legalPits, play } = module_rules;
+const { verdictOf, wordsOfMove, wordsOfToll } = module_verdict;
+const { grouped, kindOf, plies, SIDES, signed } = module_words;
+const { hasFault } = module_worths;
+
+function makeVerdict(shown) {
+  const { state, weighed, hasHints } = shown, hasEnded = isEnded(state.board);
+  const [title, text] = verdictOf(shown);
+  const value = hasEnded ? endGain(state.board) : weighed?.entry?.value;
+  const kind = value === undefined ? "open" : kindOf(value);
+  return element("div", { class: "verdict" },
+    element("div", { class: `value-box ${kind}` },
+      element("span", { id: "value" }, value === undefined ? "?" : signed(value)),
+      element("small", {}, `for ${SIDES[state.mover]}`)),
+    element("div", {},
+      element("b", {}, title),
+      element("p", {}, hasHints || hasEnded ? text && `${text}.` : "Hints are off.")));
+}
+
+// ---- the table of moves ----
+
+function makeMovesTable(shown, hands) {
+  const { state: { board }, weighed, hasHints } = shown;
+  const moves = weighed
+    ? [...weighed.moves].sort(compareMoves)
+    : legalPits(board).map(pit => play(board, pit));
+  const names = ["Move", "Captures", ...(hasHints ? ["Value", "Within"] : [])];
+  const heads = names.map(text => element("th", { scope: "col" }, text));
+  const planHead = element("th", { scope: "col" }, element("span", { class: "unseen" }, "Plan"));
+  return element("table", { id: "moves" },
+    element("caption", { class: "unseen" }, hasHints ? "The legal moves, the best first" : "The legal moves"),
+    element("thead", {}, element("tr", {}, ...heads, hasHints && planHead)),
+    element("tbody", {}, ...moves.map(move => makeMoveRow(move, shown, hands))));
+}
+
+function makeMoveRow(move, { state: { mover }, hasHints, hasLetters }, hands) {
+  const name = pitName(move.pit, mover, hasLetters), label = `Play pit ${name}, ${wordsOfMove(move, hasHints)}`;
+  const playButton = element("button", { type: "button", class: "button", "aria-label": label }, `Pit ${name}`);
+  const slam = element("span", { title: "A grand slam: it would take all, and takes nothing" }, "0 (slam)");
+  const row = element("tr", { "data-pit": move.pit },
+    element("td", {}, playButton),
+    element("td", { class: "captures" }, move.isSlam ? slam : String(move.captured)),
+    ...(hasHints ? makeWorthCells(move) : []));
+  row.addEventListener("click", () => hands.play(move.pit));
+  for (const event of ["pointerenter", "focusin"]) row.addEventListener(event, () => hands.preview(move.pit));
+  for (const event of ["pointerleave", "focusout"]) row.addEventListener(event, () => hands.preview(null));
+  return row;
+}
+
+function makeWorthCells(move) {
+  const isKnown = move.value !== undefined && !move.fault;
+  const value = isKnown
+    ? element("span", { class: `value ${kindOf(move.value)}` }, signed(move.value))
+    : element("span", { class: "soft" }, "?");
+  return [
+    element("td", {}, value),
+    element("td", { class: "within" }, ...(isKnown ? withinOf(move) : [])),
+    element("td", { class: "plan-mark" }, move.isPlan && "plan"),
+  ];
+}
+
+/** The distance. A narrow table has no room for the word behind it. */
+const withinOf = ({ distance }) => distance
+  ? [grouped(distance), element("span", { class: "wide" }, distance === 1 ? " ply" : " plies")]
+  : ["–"];
+
+// ---- what is wrong with it ----
+
+function makeRemarks({ weighed, record }) {
+  const remarks = [], unknown = weighed?.moves.find(move => move.fault);
+  if (weighed?.broken)
+    remarks.push(element("p", { class: "status wrong", role: "alert" },
+      element("b", {}, "The files are wrong here. "),
+      `The entry of this board breaks rule ${weighed.broken} beside those of its moves. See `,
+      element("code", {}, "awari verify FOLDER"), "."));
+  if (weighed?.entry && unknown) remarks.push(element("p", { class: "small bad" }, `${unknown.fault.message}.`));
+  if (record.isRepeated)
+    remarks.push(element("p", { class: "small soft" },
+      "This board was there before. Play that goes on for ever without a capture gains neither side anything."));
+  return remarks;
+}
+
+/** Whether something stands there that tells what is not known. */
+const tellsFault = box => box.dataset.fault === "true";
+
+/**
+ * While the entries are being read, what was there before stays, but faint: nothing flickers. What was not known then
+ * goes at once.
+ */
+function drawWorth(box, shown, hands) {
+  const isWaiting = !shown.weighed && !isEnded(shown.state.board) && shown.hasHints;
+  const stays = isWaiting && box.childElementCount > 0 && !tellsFault(box);
+  box.setAttribute("aria-busy", String(!shown.weighed && shown.hasHints));
+  box.classList.toggle("waiting", stays);
+  if (stays) return;
+  box.dataset.fault = String(hasFault(shown.weighed));
+  const hasMoves = !isEnded(shown.state.board);
+  refill(box, [makeVerdict(shown), ...(hasMoves ? [makeMovesTable(shown, hands)] : []), ...makeRemarks(shown)]);
+}
+
+/** Whether the proved code says what is shown. */
+function drawStanding(box, { weighed, hasHints }) {
+  if (!weighed && hasHints) return; // what was there before stays, as the worth does
+  box.className = `standing ${weighed?.isProved ? "proved" : ""}`;
+  box.textContent = weighed?.isProved ? "by the proved code" : weighed?.entry ? "not verified" : "";
+}
+
+// ---- what was played ----
+
+/** The moves of the play that is shown, its score, and what was thrown away. */
+function drawPlayed({ card, list, score, told }, { record, state, tolls, hasLetters }, hands) {
+  const { start, end, at } = record;
+  card.hidden = start === end;
+  const items = record.states.slice(start + 1, end + 1).map((to, offset) => {
+    const index = start + 1 + offset, toll = tolls.get(to);
+    const attributes = { class: index > at ? "later" : "", "aria-current": index === at && "step" };
+    const ply = { label: `Go to ply ${offset + 1}`, action: () => hands.go(index), hasLetters, toll };
+    return makePly(to.move, 1 - to.mover, ply, attributes);
+  });
+  refill(list, items, "[aria-current]");
+  scrollTo(list, list.querySelector("[aria-current]"));
+  score.textContent = `South ${state.captured[0]} : ${state.captured[1]} North`;
+  told.textContent = thrownText(record.states.slice(start, at + 1), tolls, hasLetters);
+}
+
+/** Scrolls a list, and not the page, so that an element is in its middle. */
+function scrollTo(list, element) {
+  if (element) list.scrollTop = element.offsetTop - list.offsetTop - list.clientHeight / 2;
+}
+
+/** What the last of these moves cost, and what both sides threw away by all of them. */
+function thrownText(states, tolls, hasLetters) {
+  const { move, mover } = states.at(-1), toll = tolls.get(states.at(-1));
+  if (!move || !toll) return "";
+  const last = `${SIDES[1 - mover]}’s pit ${pitName(move.pit, 1 - mover, hasLetters)} ${wordsOfToll(toll)}.`;
+  const [south, north] = thrownBySides(states, states.slice(1).map(state => tolls.get(state) ?? null));
+  return south + north === 0 ? last : `${last} In all South threw away ${south} and North ${north}.`;
+}
+return { drawWorth, drawStanding, drawPlayed };
+})();
+
 const module_views = (() => {
 // All that is seen of a session, and what is told to those who listen.
 
@@ -5521,12 +5626,13 @@ const { writeAddress } = module_address;
 const { BoardView } = module_board_view;
 const { byId, element, icon, turnOff } = module_elements;
 const { LevelsView } = module_levels_view;
+const { LineView } = module_line_view;
 const { MoreView } = module_more_view;
 const { drawNotice } = module_notice_view;
 const { PuzzleView } = module_puzzle_view;
 const { print, stonesOf } = module_rules;
 const { drawSheet, showSheet } = module_sheet_view;
-const { drawLine, drawPlayed, drawStanding, drawWorth } = module_worth_view;
+const { drawPlayed, drawStanding, drawWorth } = module_worth_view;
 
 /** @typedef {import("./session.mjs").Shown} Shown */
 
@@ -5562,7 +5668,7 @@ class Views {
     this.puzzle = new PuzzleView({ follow: plies => session.followSolution(plies) });
     this.streak = session.streak;
     this.moveHands = { play: pit => session.play(pit), preview: pit => this.board.preview(pit) };
-    this.lineHands = { follow: plies => session.follow(plies) };
+    this.line = new LineView(byId("line"), { follow: plies => session.follow(plies) });
     this.playedHands = { go: index => session.go(index) };
   }
 
@@ -5616,7 +5722,7 @@ class Views {
     this.#drawControls(shown);
     drawWorth(byId("worth"), shown, this.moveHands);
     drawStanding(byId("worth-standing"), shown);
-    drawLine(byId("line"), shown, this.lineHands);
+    this.line.draw(shown);
   }
 
   /** @param {Shown} shown */
@@ -5648,6 +5754,9 @@ class Views {
     byId("word").removeAttribute("aria-invalid");
     byId("word-fault").hidden = true;
   }
+
+  /** @param {Shown} shown */
+  drawLine(shown) { this.line.draw(shown); }
 
   /** @param {Shown} shown */
   drawPuzzle(shown) { this.puzzle.draw(shown, this.streak); }
@@ -5714,6 +5823,7 @@ session.show();
 if (fault) views.hint(fault.message);
 
 const hosted = hostedFolder(location);
+session.library.isHosting = hosted !== null;
 session.library.begin().then(() => {
   if (hosted) session.library.host(hosted);
   session.openAwaited();

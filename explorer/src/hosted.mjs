@@ -92,7 +92,8 @@ async function askOnce(place, from, to, take, whole) {
   const control = new AbortController(), headers = { Range: `bytes=${from}-${to - 1}` };
   let milliseconds = patience.request, timer = setTimeout(() => control.abort(), milliseconds);
   try {
-    const answer = await fetch(place, { headers, redirect: "manual", signal: control.signal });
+    // a browser's cache would let parts of one file wait for each other
+    const answer = await fetch(place, { headers, cache: "no-store", redirect: "manual", signal: control.signal });
     const { status, statusText } = answer;
     clearTimeout(timer);
     milliseconds += (status === 200 ? whole : to - from) / patience.bytesAMillisecond;
@@ -174,7 +175,8 @@ function foundListed(folder, listed) {
 /** The levels of a folder's index, none if it has none that can be read. */
 async function indexOf(folder) {
   try {
-    const answer = await fetch(new URL(INDEX, folder), { cache: "no-store", signal: AbortSignal.timeout(patience.request) });
+    const signal = /** @type {any} */ (AbortSignal).timeout(patience.request);
+    const answer = await fetch(new URL(INDEX, folder), { cache: "no-store", signal });
     return answer.ok ? listedIn(new TextDecoder().decode(await bytesUpTo(answer, MOST_INDEX_BYTES))) : [];
   } catch {
     return [];

@@ -82,6 +82,8 @@ export class Library {
   settled = Promise.resolve();
   /** Until the first levels are there. */
   isStarting = true;
+  /** Until the levels of the page's server are there. */
+  isHosting = false;
   /** Whether more was built, now or earlier, than the page builds by itself. */
   hasBuilt = false;
   /** Whether the browser keeps it. */
@@ -142,6 +144,9 @@ export class Library {
   }
 
   // ---- what is told ----
+
+  /** Whether a level may come at once, so that nobody can say that it is not there. */
+  isAwaited(number) { return this.isStarting || (this.isHosting && !this.shelf.slots[number]); }
 
   /** How many levels are right, from level 0 up. */
   get length() { return this.#right.length; }
@@ -304,7 +309,11 @@ export class Library {
    * @param {import("./hosted.mjs").Hosted} hosted
    */
   host(hosted) {
-    this.hosting = this.#host(hosted);
+    this.isHosting = true;
+    this.hosting = this.#host(hosted).finally(() => {
+      this.isHosting = false;
+      this.changed();
+    });
     return this.hosting;
   }
 

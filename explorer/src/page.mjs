@@ -33,6 +33,7 @@ session.show();
 if (fault) views.hint(fault.message);
 
 const hosted = hostedFolder(location);
+session.library.isHosting = hosted !== null;
 session.library.begin().then(() => {
   if (hosted) session.library.host(hosted);
   session.openAwaited();

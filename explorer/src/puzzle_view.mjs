@@ -2,9 +2,9 @@
 // The card of puzzles: which one is wanted, what there is to do, what came of it, and the streak.
 
 import { byId, element, refill } from "./elements.mjs";
+import { makeLinePlies } from "./plies_view.mjs";
 import { LEAST_LEVEL, marginOf } from "./puzzle.mjs";
 import { wordsOfPuzzle } from "./verdict.mjs";
-import { makePlies } from "./worth_view.mjs";
 
 /** @typedef {import("./session.mjs").Shown} Shown */
 
@@ -58,7 +58,7 @@ export class PuzzleView {
     if (plies.length === 0) return byId("puzzle-line").replaceChildren();
     refill(byId("puzzle-line"), [
       element("p", { class: "small soft" }, "The line of both sides’ best moves:"),
-      makePlies(plies, { mover: 0, hasLetters, follow: this.hands.follow }),
+      element("ol", { class: "plies" }, ...makeLinePlies(plies, { mover: 0, hasLetters, follow: this.hands.follow })),
     ]);
   }
 }

@@ -14,7 +14,7 @@ import { Solving } from "./solving.mjs";
 import { Streak } from "./streak.mjs";
 import { spokenVerdict, wordsOfPuzzle } from "./verdict.mjs";
 import { plural, SIDES } from "./words.mjs";
-import { bestLine, weigh } from "./worths.mjs";
+import { bestLine, hasFault, weigh } from "./worths.mjs";
 
 /**
  * @typedef {import("./rules.mjs").Board} Board
@@ -25,7 +25,7 @@ import { bestLine, weigh } from "./worths.mjs";
  * @property {Record} record what was set up and played
  * @property {import("./game.mjs").State} state that of the record which is shown
  * @property {Weighed | null} weighed what its board is worth, null while that is being asked
- * @property {Line | { fault: Error } | null} line the best line, null while that is being asked
+ * @property {Line | { fault: Error } | null} line the best line so far, null while that is being asked
  * @property {number} below the side whose pits lie in the lower row
  * @property {boolean} keepsMoverBelow whether that is always the mover's
  * @property {import("./shelf.mjs").Shelf} shelf the levels that are there
@@ -42,7 +42,8 @@ import { bestLine, weigh } from "./worths.mjs";
  *
  * @typedef {object} Listener draws what has changed, and tells what is said
  * @property {(shown: Shown) => void} drawState another state is shown, without its worth yet
- * @property {(shown: Shown) => void} drawWorth its worth or its line has come
+ * @property {(shown: Shown) => void} drawWorth its worth has come
+ * @property {(shown: Shown) => void} drawLine its line has come, or more of it
  * @property {(shown: Shown) => void} drawBoard the board lies otherwise, or is being edited
  * @property {(shown: Shown) => void} drawLevels other levels are there
  * @property {(shown: Shown) => void} drawWork levels are being built or verified, or are not any more
@@ -58,6 +59,7 @@ import { bestLine, weigh } from "./worths.mjs";
 const FIRST_BOARD = "1,0,0,0,0,1/1,0,1,0,0,0";
 const MILLISECONDS_A_PLY = 950;
 const MILLISECONDS_TO_THE_FIRST = 150;
+const MILLISECONDS_BETWEEN_DRAWINGS = 50;
 
 export class Session {
   /** @type {Listener} */
@@ -111,7 +113,7 @@ export class Session {
 
   async #weigh() {
     const mine = ++this.#turn, { shown } = this;
-    if (this.library.isStarting) return; // it is told once there are levels
+    if (this.library.isAwaited(stonesOf(shown.state.board))) return; // it is told once it has come
     const weighed = await weigh(shown.shelf, shown.state.board).catch(() => null);
     if (mine !== this.#turn || !weighed) return;
     shown.weighed = weighed;
@@ -123,13 +125,24 @@ export class Session {
     this.#showTolls();
   }
 
-  /** The line comes later, since it may be long. Nobody waits for it. */
+  /** The line comes later and grows, since it may be long. Nobody waits for it. */
   async #showLine(mine) {
     const { shown } = this;
-    const line = await bestLine(shown.shelf, shown.state.board).catch(fault => ({ fault }));
-    if (mine !== this.#turn) return;
-    shown.line = line;
-    this.listener.drawWorth(this.seen);
+    let drawn = performance.now();
+    const goOn = plies => {
+      if (mine !== this.#turn) return false;
+      if (performance.now() - drawn < MILLISECONDS_BETWEEN_DRAWINGS) return true;
+      drawn = performance.now();
+      this.#drawLine({ plies, isGrowing: true });
+      return true;
+    };
+    const line = await bestLine(shown.shelf, shown.state.board, goOn).catch(fault => ({ fault }));
+    if (mine === this.#turn) this.#drawLine(line);
+  }
+
+  #drawLine(line) {
+    this.shown.line = line;
+    this.listener.drawLine(this.seen);
   }
 
   async #showTolls() {
@@ -528,8 +541,17 @@ export class Session {
   #takeLevels() {
     this.shown.shelf = this.library.shelf;
     this.listener.drawLevels(this.shown);
-    if (this.shown.line && "fault" in this.shown.line) this.shown.line = null; // it may have come with them
+    this.#forgetFaults();
     this.#weigh();
+  }
+
+  /** What was not known may have come with them. */
+  #forgetFaults() {
+    const { shown } = this;
+    if (shown.line && "fault" in shown.line) this.#drawLine(null);
+    if (!hasFault(shown.weighed)) return;
+    shown.weighed = null;
+    this.listener.drawWorth(this.seen);
   }
 
   /** @param {{ files: File[], name: string }} chosen the files, and the name of their folder if it has one */

@@ -29,6 +29,7 @@ const notListed = number => new Fault(80, "Below", `${nameOf(number)} is another
 const KEPT_ENTRIES = 20000;
 
 export class Shelf {
+  /** The entries that were read or are being read, by the words of their boards. */
   #kept = new Map();
   /** The levels that are being tried again, by their numbers. */
   #trying = new Map();
@@ -164,9 +165,10 @@ export class Shelf {
     await this.#trying.get(stones);
     const level = this.#levelOf(stones), word = print(board);
     if (!this.#kept.has(word)) {
-      const [entry] = await Promise.all([this.#read(level, board), this.#look(stones)]);
+      const reading = Promise.all([this.#read(level, board), this.#look(stones)]).then(([entry]) => entry);
       if (this.#kept.size >= KEPT_ENTRIES) this.#kept.clear();
-      this.#kept.set(word, entry);
+      this.#kept.set(word, reading);
+      reading.catch(() => this.#kept.delete(word));
     }
     return this.#kept.get(word);
   }

@@ -5,12 +5,13 @@ import { writeAddress } from "./address.mjs";
 import { BoardView } from "./board_view.mjs";
 import { byId, element, icon, turnOff } from "./elements.mjs";
 import { LevelsView } from "./levels_view.mjs";
+import { LineView } from "./line_view.mjs";
 import { MoreView } from "./more_view.mjs";
 import { drawNotice } from "./notice_view.mjs";
 import { PuzzleView } from "./puzzle_view.mjs";
 import { print, stonesOf } from "./rules.mjs";
 import { drawSheet, showSheet } from "./sheet_view.mjs";
-import { drawLine, drawPlayed, drawStanding, drawWorth } from "./worth_view.mjs";
+import { drawPlayed, drawStanding, drawWorth } from "./worth_view.mjs";
 
 /** @typedef {import("./session.mjs").Shown} Shown */
 
@@ -46,7 +47,7 @@ export class Views {
     this.puzzle = new PuzzleView({ follow: plies => session.followSolution(plies) });
     this.streak = session.streak;
     this.moveHands = { play: pit => session.play(pit), preview: pit => this.board.preview(pit) };
-    this.lineHands = { follow: plies => session.follow(plies) };
+    this.line = new LineView(byId("line"), { follow: plies => session.follow(plies) });
     this.playedHands = { go: index => session.go(index) };
   }
 
@@ -100,7 +101,7 @@ export class Views {
     this.#drawControls(shown);
     drawWorth(byId("worth"), shown, this.moveHands);
     drawStanding(byId("worth-standing"), shown);
-    drawLine(byId("line"), shown, this.lineHands);
+    this.line.draw(shown);
   }
 
   /** @param {Shown} shown */
@@ -132,6 +133,9 @@ export class Views {
     byId("word").removeAttribute("aria-invalid");
     byId("word-fault").hidden = true;
   }
+
+  /** @param {Shown} shown */
+  drawLine(shown) { this.line.draw(shown); }
 
   /** @param {Shown} shown */
   drawPuzzle(shown) { this.puzzle.draw(shown, this.streak); }

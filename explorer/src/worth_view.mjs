@@ -1,16 +1,15 @@
 // @ts-check
-// What the board that is shown is worth: a verdict, the table of moves, the best line, and what was played.
+// What the board that is shown is worth: a verdict and the table of moves; and what was played.
 
-import { button, element, refill } from "./elements.mjs";
+import { element, refill } from "./elements.mjs";
 import { thrownBySides } from "./game.mjs";
 import { pitName } from "./letters.mjs";
 import { compareMoves } from "./opponent.mjs";
+import { makePly } from "./plies_view.mjs";
 import { endGain, isEnded, legalPits, play } from "./rules.mjs";
 import { verdictOf, wordsOfMove, wordsOfToll } from "./verdict.mjs";
 import { grouped, kindOf, plies, SIDES, signed } from "./words.mjs";
-
-/** More plies of a line than this are counted, and not shown. */
-const MOST_PLIES_SHOWN = 400;
+import { hasFault } from "./worths.mjs";
 
 function makeVerdict(shown) {
   const { state, weighed, hasHints } = shown, hasEnded = isEnded(state.board);
@@ -89,12 +88,20 @@ function makeRemarks({ weighed, record }) {
   return remarks;
 }
 
-/** While the entries are being read, what was there before stays, but faint: nothing flickers. */
+/** Whether something stands there that tells what is not known. */
+const tellsFault = box => box.dataset.fault === "true";
+
+/**
+ * While the entries are being read, what was there before stays, but faint: nothing flickers. What was not known then
+ * goes at once.
+ */
 export function drawWorth(box, shown, hands) {
   const isWaiting = !shown.weighed && !isEnded(shown.state.board) && shown.hasHints;
+  const stays = isWaiting && box.childElementCount > 0 && !tellsFault(box);
   box.setAttribute("aria-busy", String(!shown.weighed && shown.hasHints));
-  box.classList.toggle("waiting", isWaiting && box.childElementCount > 0);
-  if (isWaiting && box.childElementCount > 0) return;
+  box.classList.toggle("waiting", stays);
+  if (stays) return;
+  box.dataset.fault = String(hasFault(shown.weighed));
   const hasMoves = !isEnded(shown.state.board);
   refill(box, [makeVerdict(shown), ...(hasMoves ? [makeMovesTable(shown, hands)] : []), ...makeRemarks(shown)]);
 }
@@ -106,74 +113,7 @@ export function drawStanding(box, { weighed, hasHints }) {
   box.textContent = weighed?.isProved ? "by the proved code" : weighed?.entry ? "not verified" : "";
 }
 
-// ---- plies ----
-
-/**
- * A move as a button: its pit, what it captured, and what it threw away.
- * @param {{ pit: number, captured: number }} ply
- * @param {number} mover
- * @param {{ label: string, action: () => void, hasLetters: boolean, toll?: import("./game.mjs").Toll | null }} more
- * @param {{ class?: string, "aria-current"?: string | false }} attributes
- */
-function makePly({ pit, captured }, mover, { label, action, hasLetters, toll }, attributes = {}) {
-  const side = SIDES[mover], name = pitName(pit, mover, hasLetters);
-  const captures = captured ? `, captures ${captured}` : "", cost = toll?.thrown ? `, ${wordsOfToll(toll)}` : "";
-  const all = {
-    ...attributes,
-    class: `${side.toLowerCase()} ${attributes.class ?? ""}`,
-    title: toll && wordsOfToll(toll),
-    "aria-label": `${label}: ${side}, pit ${name}${captures}${cost}`,
-  };
-  return element("li", {}, button(all, action, name,
-    captured > 0 && element("small", {}, `×${captured}`),
-    toll?.thrown > 0 && element("small", { class: "thrown" }, signed(-toll.thrown))));
-}
-
-export function drawLine(box, shown, hands) {
-  const { line, hasHints, hasLetters } = shown, isWaiting = !line && hasHints;
-  box.setAttribute("aria-busy", String(isWaiting));
-  box.classList.toggle("waiting", isWaiting);
-  if (isWaiting) return;
-  if (!line || line.fault) return box.replaceChildren(element("p", { class: "small soft" }, whyNoLine(shown)));
-  const plyList = line.plies.slice(0, MOST_PLIES_SHOWN);
-  refill(box, [
-    ...(plyList.length ? [makePlies(plyList, { mover: shown.state.mover, hasLetters, follow: hands.follow })] : []),
-    element("p", { class: "outcome" }, outcomeText(line, plyList.length, shown.state.mover)),
-    ...makeLineRemarks(line),
-  ]);
-}
-
-/**
- * The plies of a line, which this side begins. Each goes to where it leads.
- * @param {{ pit: number, captured: number }[]} list
- * @param {{ mover: number, hasLetters: boolean, follow: (plies: object[]) => void }} how
- */
-export function makePlies(list, { mover, hasLetters, follow }) {
-  return element("ol", { class: "plies" }, ...list.map((ply, index) => makePly(ply, (mover + index) % 2, {
-    label: `Go to ply ${index + 1} of the line`, action: () => follow(list.slice(0, index + 1)), hasLetters,
-  })));
-}
-
-function whyNoLine({ line, weighed, hasHints }) {
-  if (!hasHints) return "Hints are off.";
-  return weighed?.fault ? "There is no line without the entry of this board." : `${line.fault.message}.`;
-}
-
-function outcomeText(line, shownPlies, mover) {
-  const gains = line.outcome === 0 ? "neither side gains"
-    : `${SIDES[line.outcome > 0 ? mover : 1 - mover]} gains ${Math.abs(line.outcome)}`;
-  const hidden = line.plies.length - shownPlies, more = hidden > 0 ? ` (${plies(hidden)} more)` : "";
-  if (line.ended && line.plies.length === 0) return `Play has ended: ${gains}.`;
-  if (line.ended) return `Play ends after ${plies(line.plies.length)}${more}: ${gains}.`;
-  if (line.repeats !== null) return `From ply ${line.repeats + 1} on the play repeats for ever${more}: ${gains}.`;
-  return `No capture comes any more${more}: ${gains}.`;
-}
-
-function makeLineRemarks({ outcome, value }) {
-  if (outcome === value) return [];
-  const text = `The plans come to ${signed(outcome)}, and the value is ${signed(value)}: the files are wrong.`;
-  return [element("p", { class: "bad small", role: "alert" }, text)];
-}
+// ---- what was played ----
 
 /** The moves of the play that is shown, its score, and what was thrown away. */
 export function drawPlayed({ card, list, score, told }, { record, state, tolls, hasLetters }, hands) {

@@ -29,7 +29,14 @@ import { LAST_PIT } from "./level_file.mjs";
  * @property {boolean} ended whether play ends with it
  * @property {number | null} repeats the ply after which the same pits come for ever
  * @property {number} outcome what the mover gains by it
+ * @property {boolean} [isGrowing] whether more plies are to come
  */
+
+/**
+ * Whether something of a board is not known.
+ * @param {Weighed | null} weighed
+ */
+export const hasFault = weighed => Boolean(weighed && (weighed.fault || weighed.moves.some(({ fault }) => fault)));
 
 /**
  * The entry of a board, and its moves with their worths. A fault stands in the place of what can't be read.
@@ -95,15 +102,16 @@ function isDistance(distance, value, planned, moves) {
  * after which that stood, as `awari line --plies` tells it.
  * @param {Shelf} shelf
  * @param {Board} board
+ * @param {(plies: Line["plies"]) => boolean} goOn hears each ply of a level that is read, and says whether more are wanted
  * @returns {Promise<Line>}
  */
-export async function bestLine(shelf, board) {
+export async function bestLine(shelf, board, goOn = () => true) {
   if (shelf.knows(board)) {
     const { moves, outcome } = await shelf.proved.ask("line", board);
-    return { ...await walk(board, async (_, ply) => moves[ply] ?? null), value: outcome, outcome };
+    return { ...await walk(board, async (_, ply) => moves[ply] ?? null, () => true), value: outcome, outcome };
   }
   const { value } = await shelf.entry(board), limit = shelf.limitTo(stonesOf(board));
-  return { ...await walk(board, (at, _, quiet) => quiet > limit ? null : planOf(shelf, at)), value };
+  return { ...await walk(board, (at, _, quiet) => quiet > limit ? null : planOf(shelf, at), goOn), value };
 }
 
 async function planOf(shelf, board) {
@@ -113,13 +121,13 @@ async function planOf(shelf, board) {
   return plan;
 }
 
-/** Plays what `pitAt` gives for a board, a ply and how many plies captured nothing, up to null. */
-async function walk(board, pitAt) {
+/** Plays what `pitAt` gives for a board, a ply and how many plies captured nothing, up to null or as long as wanted. */
+async function walk(board, pitAt, goOn) {
   const plies = [], met = new Map();
   let running = 0, side = 1, quiet = 0, repeats = null;
   while (!isEnded(board) && repeats === null) {
     const pit = await pitAt(board, plies.length, quiet);
-    if (pit === null) break;
+    if (pit === null || !goOn(plies)) break;
     met.set(print(board), plies.length);
     const { captured, next } = play(board, pit);
     plies.push({ pit, captured });

@@ -1,9 +1,9 @@
 #!/usr/bin/env python3
 """Tests explorer/index.html in a headless Chromium, beside the program.
 
-    tests/explorer/browser.py AWARI FOLDER [--boards 200] [--lines 12] [--pictures FOLDER]
+    tests/explorer/browser.py AWARI FOLDER MORE [--boards 200] [--lines 12] [--pictures FOLDER]
 
-AWARI is the program, and the first FOLDER has levels 0 to 10 that it built. It wants Chromium, its driver
+AWARI is the program. It built levels 0 to 10 in the first FOLDER, and 0 to 12 in MORE. It wants Chromium, its driver
 and selenium. It prints a line for each fault and for each section, and ends with 1 if there is a fault.
 """
 import argparse
@@ -21,6 +21,7 @@ import looks
 import playing
 import puzzling
 import sites
+import slow
 from driven import FIRST, TALLY, Page, check, end_section, pits_of, random_board, run, signed, unsigned, until
 from selenium.webdriver.common.action_chains import ActionChains
 from selenium.webdriver.common.keys import Keys
@@ -367,6 +368,7 @@ def parsed_words():
     parser = argparse.ArgumentParser(description=__doc__, formatter_class=argparse.RawTextHelpFormatter)
     parser.add_argument("awari", type=Path)
     parser.add_argument("folder", type=Path)
+    parser.add_argument("more", type=Path)
     parser.add_argument("--boards", type=int, default=200)
     parser.add_argument("--lines", type=int, default=12)
     parser.add_argument("--pictures", type=Path)
@@ -412,6 +414,8 @@ def test_page(given, made):
     end_section("no error in the console, nothing asked of the network")
     sites.sites(folder, made)
     hosted.hosted_levels(awari, folder, made)
+    slow.slow_server(awari, given.more.resolve(), made)
+    slow.lying_server(awari, folder, made)
 
 
 def main():

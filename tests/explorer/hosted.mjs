@@ -65,7 +65,7 @@ await section("a server that knows Range", async () => {
   serve(right);
   const page = await opened();
   expect("its levels", [standings(page), page.library.title, page.told], ["bbbbbbbuuu", "Levels to 9 of this server", []]);
-  expect("each as it comes", page.shown.filter(title => title.endsWith("server")), [7, 8, 9].map(top => `Levels to ${top} of this server`));
+  expect("each as it comes", [...new Set(page.shown.filter(title => title.endsWith("server")))], [7, 8, 9].map(top => `Levels to ${top} of this server`));
   asked = [];
   for (const stones of [7, 8, 9]) values.set(stones, await entryOf(page.shelf, stones));
   expect("six bytes each", [asked.length, asked.every(it => /^\S+ (\d+)-(\d+)$/.exec(it).slice(1).map(Number).reduce((one, other) => other - one) === 5)], [3, true]);
@@ -164,7 +164,7 @@ await section("a folder with an index", async () => {
   let page = await opened();
   expect("its levels", [standings(page), page.library.title, page.told], ["bbbbbbbuuu", "Levels to 9 of this server", []]);
   expect("by one header", asked.filter(it => !it.startsWith("level_09")), ["level_07.awdb 0-51"]);
-  expect("all at once", page.shown.filter(title => title.endsWith("server")), ["Levels to 9 of this server"]);
+  expect("all at once", [...new Set(page.shown.filter(title => title.endsWith("server")))], ["Levels to 9 of this server"]);
   asked = [];
   for (const stones of [7, 8, 9, 7]) expect(`an entry of ${stones}`, await entryOf(page.shelf, stones), values.get(stones));
   const lengths = asked.map(it => /(\d+)-(\d+)$/.exec(it).slice(1).map(Number)).map(([first, last]) => last + 1 - first).sort((one, other) => one - other);

@@ -141,3 +141,5 @@ def puzzles(page, awari, folder):
     new_ones(page)
     printed(page, awari, folder)
     page.js("localStorage.clear()")
+    page.click("#clear-kept")
+    until(lambda: "keeps no levels" in page.said())
