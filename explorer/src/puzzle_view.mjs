@@ -46,10 +46,17 @@ export class PuzzleView {
     byId("puzzle-told").hidden = !told;
     byId("puzzle-told").className = puzzleTold ? "status" : `status ${KINDS[puzzle?.standing] ?? ""}`;
     byId("puzzle-card").setAttribute("aria-busy", String(puzzleTold.endsWith("…")));
-    byId("solution").hidden = !puzzle?.isOpen;
-    byId("again").hidden = !puzzle || puzzle.isOpen;
+    this.#drawButtons(puzzle);
     byId("streak").textContent = streak.text;
     this.#drawLine(shown);
+  }
+
+  /** One of two is there. If the other had the keyboard, it gets that. */
+  #drawButtons(puzzle) {
+    const held = document.activeElement?.id, buttons = ["solution", "again"];
+    byId("solution").hidden = !puzzle?.isOpen;
+    byId("again").hidden = !puzzle || puzzle.isOpen;
+    if (buttons.includes(held) && byId(held).hidden) byId(buttons.find(id => !byId(id).hidden) ?? "puzzle").focus();
   }
 
   #drawLine({ puzzle, hasLetters }) {

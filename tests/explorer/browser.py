@@ -15,6 +15,7 @@ import time
 from pathlib import Path
 
 import building
+import everyone
 import files
 import hosted
 import looks
@@ -411,6 +412,7 @@ def test_page(given, made):
         looks.tabulator(page)
         looks.widths(page)
         looks.touch(page)
+        everyone.everyone(page, awari, folder)
     end_section("no error in the console, nothing asked of the network")
     sites.sites(folder, made)
     hosted.hosted_levels(awari, folder, made)
