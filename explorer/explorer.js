@@ -2766,6 +2766,12 @@ class Shelf {
     return (standing === "built" || standing === "verified") && stones < (this.proved?.length ?? 0);
   }
 
+  /** Whether a server would have to be asked for the entry of a board, and was not yet. */
+  isFar(board) {
+    const level = this.level(stonesOf(board));
+    return Boolean(level?.file.isHosted) && !this.knows(board) && !this.#kept.has(print(board));
+  }
+
   /**
    * The entry of a board. Of a level that is not verified its six bytes are read.
    * @returns {Promise<Entry>}
@@ -3479,8 +3485,11 @@ async function bestLine(shelf, board, goOn = () => true) {
   return { ...await walk(board, (at, _, quiet) => quiet > limit ? null : planOf(shelf, at), goOn), value };
 }
 
+/** A server is asked for the entries of a board's moves together with its own, so that two plies come at once. */
 async function planOf(shelf, board) {
-  const { plan } = await shelf.entry(board);
+  const isFar = shelf.isFar(board), asked = shelf.entry(board);
+  if (isFar) for (const pit of legalPits(board)) shelf.entry(play(board, pit).next).catch(() => {});
+  const { plan } = await asked;
   if (plan === null)
     throw new Fault(83, "Verify", `The entry of ${print(board)} names no plan, and play has not ended`);
   return plan;

@@ -154,6 +154,12 @@ export class Shelf {
     return (standing === "built" || standing === "verified") && stones < (this.proved?.length ?? 0);
   }
 
+  /** Whether a server would have to be asked for the entry of a board, and was not yet. */
+  isFar(board) {
+    const level = this.level(stonesOf(board));
+    return Boolean(level?.file.isHosted) && !this.knows(board) && !this.#kept.has(print(board));
+  }
+
   /**
    * The entry of a board. Of a level that is not verified its six bytes are read.
    * @returns {Promise<Entry>}

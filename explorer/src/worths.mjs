@@ -114,8 +114,11 @@ export async function bestLine(shelf, board, goOn = () => true) {
   return { ...await walk(board, (at, _, quiet) => quiet > limit ? null : planOf(shelf, at), goOn), value };
 }
 
+/** A server is asked for the entries of a board's moves together with its own, so that two plies come at once. */
 async function planOf(shelf, board) {
-  const { plan } = await shelf.entry(board);
+  const isFar = shelf.isFar(board), asked = shelf.entry(board);
+  if (isFar) for (const pit of legalPits(board)) shelf.entry(play(board, pit).next).catch(() => {});
+  const { plan } = await asked;
   if (plan === null)
     throw new Fault(83, "Verify", `The entry of ${print(board)} names no plan, and play has not ended`);
   return plan;
