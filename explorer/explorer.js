@@ -931,42 +931,6 @@ function onAddress({ comeTo, openLink }) {
 return { readAddress, writeAddress, onAddress };
 })();
 
-const module_choices = (() => {
-// What was chosen on the page, yes or no, kept by the browser. Nothing here knows of the page.
-
-const PREFIX = "awari-explorer.";
-
-class Choices {
-  /**
-   * A page may be denied its storage; then choices last as long as the page.
-   * @param {() => Storage} storage
-   */
-  constructor(storage) {
-    this.chosen = new Map();
-    try {
-      this.storage = storage();
-    } catch {
-      this.storage = null;
-    }
-  }
-
-  /** What was chosen, and `otherwise` if nothing was. */
-  get(name, otherwise) {
-    const kept = this.chosen.get(name) ?? this.storage?.getItem(PREFIX + name);
-    return kept ? kept === "yes" : otherwise;
-  }
-
-  set(name, isChosen) {
-    const kept = isChosen ? "yes" : "no";
-    this.chosen.set(name, kept);
-    try {
-      this.storage?.setItem(PREFIX + name, kept);
-    } catch { /* the storage is full */ }
-  }
-}
-return { Choices };
-})();
-
 const module_elements = (() => {
 // Makes elements of the page. All text comes in as text, so no name of a file can pass for markup.
 
@@ -1011,6 +975,60 @@ function button(attributes, action, ...children) {
   return made;
 }
 return { byId, element, drawing, icon, turnOff, isOff, refill, button };
+})();
+
+const module_app = (() => {
+// The page as an app: if it came from a server, the browser keeps it and opens it with no network.
+
+const { element } = module_elements;
+
+/** From the disk nothing is kept. A browser keeps nothing of a server without https, but for one on its own machine. */
+async function keepPage() {
+  if (!/^https?:$/.test(location.protocol)) return;
+  document.head.append(
+    element("link", { rel: "manifest", href: "manifest.webmanifest" }),
+    element("link", { rel: "apple-touch-icon", href: "icon.png" }));
+  try {
+    await navigator.serviceWorker?.register("service_worker.js");
+  } catch { /* the browser refuses, or the server has not that file */ }
+}
+return { keepPage };
+})();
+
+const module_choices = (() => {
+// What was chosen on the page, yes or no, kept by the browser. Nothing here knows of the page.
+
+const PREFIX = "awari-explorer.";
+
+class Choices {
+  /**
+   * A page may be denied its storage; then choices last as long as the page.
+   * @param {() => Storage} storage
+   */
+  constructor(storage) {
+    this.chosen = new Map();
+    try {
+      this.storage = storage();
+    } catch {
+      this.storage = null;
+    }
+  }
+
+  /** What was chosen, and `otherwise` if nothing was. */
+  get(name, otherwise) {
+    const kept = this.chosen.get(name) ?? this.storage?.getItem(PREFIX + name);
+    return kept ? kept === "yes" : otherwise;
+  }
+
+  set(name, isChosen) {
+    const kept = isChosen ? "yes" : "no";
+    this.chosen.set(name, kept);
+    try {
+      this.storage?.setItem(PREFIX + name, kept);
+    } catch { /* the storage is full */ }
+  }
+}
+return { Choices };
 })();
 
 const module_files = (() => {
@@ -2979,6 +2997,9 @@ class Library {
    * @returns {File[]}
    */
   get files() { return this.#right.map(({ level }) => /** @type {File} */ (level?.file)); }
+
+  /** How much of that the browser keeps: what the page does not build by itself. */
+  get keptBytes() { return this.files.slice(FIRST_LEVELS).reduce((bytes, { size }) => bytes + size, 0); }
 
   #workOn(work) {
     this.work = work;
@@ -5333,7 +5354,7 @@ class MoreView {
     byId("save").hidden = byId("kept-told").hidden = byId("clear-kept").hidden = !library.hasBuilt;
     turnOff(byId("clear-kept"), !isKept);
     byId("kept-told").textContent = isKept
-      ? "This browser keeps what was built here, until you clear it."
+      ? `This browser keeps levels to ${length - 1}, ${sizeText(library.keptBytes)}, until you clear it.`
       : "This browser keeps nothing: save the levels as files.";
     this.drawCost(library);
     this.drawWork(library);
@@ -5808,6 +5829,7 @@ const module_page = (() => {
 // The page: a session, its views, and the hands that act on it.
 
 const { readAddress } = module_address;
+const { keepPage } = module_app;
 const { Choices } = module_choices;
 const { bindHands } = module_hands;
 const { hostedFolder } = module_hosted;
@@ -5844,6 +5866,7 @@ session.library.begin().then(() => {
   if (hosted) session.library.host(hosted);
   session.openAwaited();
 });
+keepPage();
 return {  };
 })();
 

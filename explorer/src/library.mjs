@@ -162,6 +162,9 @@ export class Library {
    */
   get files() { return this.#right.map(({ level }) => /** @type {File} */ (level?.file)); }
 
+  /** How much of that the browser keeps: what the page does not build by itself. */
+  get keptBytes() { return this.files.slice(FIRST_LEVELS).reduce((bytes, { size }) => bytes + size, 0); }
+
   #workOn(work) {
     this.work = work;
     this.worked();

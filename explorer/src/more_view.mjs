@@ -55,7 +55,7 @@ export class MoreView {
     byId("save").hidden = byId("kept-told").hidden = byId("clear-kept").hidden = !library.hasBuilt;
     turnOff(byId("clear-kept"), !isKept);
     byId("kept-told").textContent = isKept
-      ? "This browser keeps what was built here, until you clear it."
+      ? `This browser keeps levels to ${length - 1}, ${sizeText(library.keptBytes)}, until you clear it.`
       : "This browser keeps nothing: save the levels as files.";
     this.drawCost(library);
     this.drawWork(library);

@@ -2,6 +2,7 @@
 // The page: a session, its views, and the hands that act on it.
 
 import { readAddress } from "./address.mjs";
+import { keepPage } from "./app.mjs";
 import { Choices } from "./choices.mjs";
 import { bindHands } from "./hands.mjs";
 import { hostedFolder } from "./hosted.mjs";
@@ -38,3 +39,4 @@ session.library.begin().then(() => {
   if (hosted) session.library.host(hosted);
   session.openAwaited();
 });
+keepPage();

@@ -19,6 +19,7 @@ import everyone
 import files
 import hosted
 import looks
+import offline
 import playing
 import puzzling
 import sites
@@ -413,11 +414,13 @@ def test_page(given, made):
         looks.widths(page)
         looks.touch(page)
         everyone.everyone(page, awari, folder)
+        offline.nothing_from_the_disk(page)
     end_section("no error in the console, nothing asked of the network")
     sites.sites(folder, made)
     hosted.hosted_levels(awari, folder, made)
     slow.slow_server(awari, given.more.resolve(), made)
     slow.lying_server(awari, folder, made)
+    offline.apps(awari, folder, made)
 
 
 def main():

@@ -8,10 +8,10 @@ from contextlib import contextmanager
 from pathlib import Path
 
 from driven import Page, check, end_section, run, until
-from sites import make
+from sites import PAGE, make
 
 TOP = Path(__file__).resolve().parents[2]
-SCRIPTS = ["index.html", "style.css", "explorer.js", "awari_module.js"]
+SCRIPTS = PAGE
 # A server that gives whole files alone.
 PLAIN = """import http.server, functools, sys
 handler = functools.partial(http.server.SimpleHTTPRequestHandler, directory=sys.argv[1])

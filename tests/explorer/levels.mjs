@@ -42,7 +42,7 @@ await section("levels 0 to 10 that the proved code builds beside the program's f
   const shares = [];
   const next = await built.askTelling(done => shares.push(done), "build");
   expect("level 11 in slices", Buffer.compare(Buffer.from(next), read(HIGHEST_READ + 1)), 0);
-  expect("each slice is told", shares.length > 2 && shares.every((share, at) => share >= (shares[at - 1] ?? 0)), true);
+  expect("each slice is told", shares.length > 1 && shares.every((share, at) => share >= (shares[at - 1] ?? 0)), true);
   const stopped = built.askTelling(() => built.ask("stop"), "build");
   expect("a build that is stopped", [await stopped, built.length], [null, HIGHEST_READ + 2]);
 });

@@ -9,7 +9,7 @@ from driven import check, end_section
 from files import ENTRIES, ENTRY, copy_levels, patched, rehashed
 
 TOP = Path(__file__).resolve().parents[2]
-PAGE = ["awari_module.js", "explorer.js", "index.html", "style.css"]
+PAGE = ["awari_module.js", "explorer.js", "icon.png", "icon.svg", "index.html", "manifest.webmanifest", "service_worker.js", "style.css"]
 
 
 def make(*words):
