@@ -912,9 +912,9 @@ const module_address = (() => {
 /** What stands behind the #, empty if nothing does. */
 const readAddress = () => location.hash.slice(1);
 
-/** Writes a link there. Back leads from a step to what was shown before it. */
+/** Writes a link there, unless it is there. Back leads from a step to what was shown before it. */
 function writeAddress(link, isStep) {
-  if (!isStep && history.state && readAddress() === link) return;
+  if (history.state && readAddress() === link) return;
   try {
     if (isStep) history.pushState({ isStep }, "", `#${link}`);
     else history.replaceState({ isStep }, "", `#${link}`);
@@ -2756,6 +2756,12 @@ class Shelf {
     if (slot.level) this.came();
   }
 
+  /** Whether a level is here. One of a server gives way to one that was built. */
+  has(number) {
+    const slot = this.slots[number];
+    return Boolean(slot) && !slot.again && !slot.level?.file.isHosted;
+  }
+
   level(number) { return this.slots[number]?.level ?? null; }
   fault(number) { return this.slots[number]?.fault ?? null; }
   standing(number) { return this.slots[number]?.standing ?? null; }
@@ -3045,7 +3051,7 @@ class Library {
   async #takeBuilt(number, file) {
     await this.#addRight(file, "built");
     this.hasBuilt = true;
-    if (!this.shelf.slots[number]) this.shelf.slots[number] = this.#right[number];
+    if (!this.shelf.has(number)) this.shelf.slots[number] = this.#right[number];
     this.changed();
     this.#keeping = this.#keeping.then(() => this.#keep());
   }
@@ -3941,6 +3947,7 @@ class Session {
   #awaited;
   /** What is drawn counts only if nothing else was asked for meanwhile. */
   #draws = 0;
+  #isDrawing = false;
   /** The sides that the table played before a puzzle. */
   #sidesBefore = [false, false];
 
@@ -3972,6 +3979,8 @@ class Session {
   /** Shows the state of the record, at first without its worth, and then with it. Back undoes a step. */
   async show({ isStep = false } = {}) {
     Object.assign(this.shown, { state: this.record.now, weighed: null, line: null });
+    if (!this.#isDrawing) this.shown.puzzleTold = "";
+    if (isStep) this.#awaited = null;
     this.#leavePuzzle();
     this.#laySides();
     this.listener.drawState(this.seen);
@@ -4159,6 +4168,7 @@ class Session {
   // ---- links and texts ----
 
   get link() {
+    if (this.#awaited) return this.#awaited;
     if (this.shown.puzzle) return printAsked(this.shown.puzzle.asked);
     return printLink({ ...this.record.game, below: Number(this.#northIsBelow), table: this.opponent.sides });
   }
@@ -4226,6 +4236,7 @@ class Session {
     this.stopPlaying();
     const boards = await this.#draw(told => this.puzzler.draw(asked, 1, told));
     if (!boards) return;
+    this.#awaited = null;
     this.#closePuzzle();
     this.record.setUp(boards[0], 0);
     this.shown.puzzle = new Solving(asked, this.record.now, !isAgain);
@@ -4242,6 +4253,7 @@ class Session {
     this.stopPlaying();
     const puzzles = await this.#draw(told => this.puzzler.sheet(asked, told));
     if (!puzzles) return;
+    this.#awaited = null;
     this.listener.keepLink(printAsked(asked, "sheet"), isStep);
     this.listener.showSheet({ asked, puzzles });
   }
@@ -4254,16 +4266,15 @@ class Session {
       this.shown.puzzleTold = text;
       this.listener.drawPuzzle(this.shown);
     };
+    this.#isDrawing = true;
     tell("A puzzle is drawn…");
-    try {
-      const given = await draw(tell);
-      tell("");
-      return mine === this.#draws ? given : null;
-    } catch (fault) {
-      tell(`${fault.message}.`);
-      this.listener.say(this.shown.puzzleTold);
-      return null;
-    }
+    const given = await draw(tell).catch(fault => ({ fault }));
+    if (mine !== this.#draws) return null;
+    this.#isDrawing = false;
+    tell(given.fault ? `${given.fault.message}.` : "");
+    if (!given.fault) return given;
+    this.listener.say(this.shown.puzzleTold);
+    return null;
   }
 
   /** Solves the same puzzle from its start. That does not count. */
@@ -4304,7 +4315,9 @@ class Session {
 
   /** Plays a part of the line of a puzzle from where that begins. */
   followSolution(plies) {
-    this.record.go(this.record.states.indexOf(this.shown.puzzle.from));
+    const { from } = this.shown.puzzle, index = this.record.states.indexOf(from);
+    if (index < 0) this.record.setUp(from.board, from.mover); // other moves took its place
+    else this.record.go(index);
     return this.follow(plies);
   }
 
@@ -5521,7 +5534,7 @@ const { grouped, kindOf, plies, SIDES, signed } = module_words;
 const { hasFault } = module_worths;
 
 function makeVerdict(shown) {
-  const { state, weighed, hasHints } = shown, hasEnded = isEnded(state.board);
+  const { state, weighed } = shown, hasEnded = isEnded(state.board);
   const [title, text] = verdictOf(shown);
   const value = hasEnded ? endGain(state.board) : weighed?.entry?.value;
   const kind = value === undefined ? "open" : kindOf(value);
@@ -5531,7 +5544,13 @@ function makeVerdict(shown) {
       element("small", {}, `for ${SIDES[state.mover]}`)),
     element("div", {},
       element("b", {}, title),
-      element("p", {}, hasHints || hasEnded ? text && `${text}.` : "Hints are off.")));
+      element("p", {}, wordsBeside(shown, text && `${text}.`))));
+}
+
+function wordsBeside({ state, weighed, hasHints, puzzle }, text) {
+  if (isEnded(state.board) || weighed) return text;
+  if (hasHints) return "The levels are being asked.";
+  return puzzle?.isOpen ? "Hints are hidden until the puzzle is over." : "Hints are off.";
 }
 
 // ---- the table of moves ----

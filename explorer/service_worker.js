@@ -1,7 +1,7 @@
 "use strict";
 // Made by explorer/make of explorer/src/service_worker.js: change those.
 
-const VERSION = "207bf5307806ea4f";
+const VERSION = "76c734eaa75e6a7c";
 // Keeps the page that came from a server, so that it opens with no network. Levels are not its matter: the page keeps
 // what it built, and asks the server for others. A changed file makes another VERSION, and so another cache.
 

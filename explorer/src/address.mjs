@@ -4,9 +4,9 @@
 /** What stands behind the #, empty if nothing does. */
 export const readAddress = () => location.hash.slice(1);
 
-/** Writes a link there. Back leads from a step to what was shown before it. */
+/** Writes a link there, unless it is there. Back leads from a step to what was shown before it. */
 export function writeAddress(link, isStep) {
-  if (!isStep && history.state && readAddress() === link) return;
+  if (history.state && readAddress() === link) return;
   try {
     if (isStep) history.pushState({ isStep }, "", `#${link}`);
     else history.replaceState({ isStep }, "", `#${link}`);

@@ -209,7 +209,7 @@ export class Library {
   async #takeBuilt(number, file) {
     await this.#addRight(file, "built");
     this.hasBuilt = true;
-    if (!this.shelf.slots[number]) this.shelf.slots[number] = this.#right[number];
+    if (!this.shelf.has(number)) this.shelf.slots[number] = this.#right[number];
     this.changed();
     this.#keeping = this.#keeping.then(() => this.#keep());
   }

@@ -73,6 +73,7 @@ export class Session {
   #awaited;
   /** What is drawn counts only if nothing else was asked for meanwhile. */
   #draws = 0;
+  #isDrawing = false;
   /** The sides that the table played before a puzzle. */
   #sidesBefore = [false, false];
 
@@ -104,6 +105,8 @@ export class Session {
   /** Shows the state of the record, at first without its worth, and then with it. Back undoes a step. */
   async show({ isStep = false } = {}) {
     Object.assign(this.shown, { state: this.record.now, weighed: null, line: null });
+    if (!this.#isDrawing) this.shown.puzzleTold = "";
+    if (isStep) this.#awaited = null;
     this.#leavePuzzle();
     this.#laySides();
     this.listener.drawState(this.seen);
@@ -291,6 +294,7 @@ export class Session {
   // ---- links and texts ----
 
   get link() {
+    if (this.#awaited) return this.#awaited;
     if (this.shown.puzzle) return printAsked(this.shown.puzzle.asked);
     return printLink({ ...this.record.game, below: Number(this.#northIsBelow), table: this.opponent.sides });
   }
@@ -358,6 +362,7 @@ export class Session {
     this.stopPlaying();
     const boards = await this.#draw(told => this.puzzler.draw(asked, 1, told));
     if (!boards) return;
+    this.#awaited = null;
     this.#closePuzzle();
     this.record.setUp(boards[0], 0);
     this.shown.puzzle = new Solving(asked, this.record.now, !isAgain);
@@ -374,6 +379,7 @@ export class Session {
     this.stopPlaying();
     const puzzles = await this.#draw(told => this.puzzler.sheet(asked, told));
     if (!puzzles) return;
+    this.#awaited = null;
     this.listener.keepLink(printAsked(asked, "sheet"), isStep);
     this.listener.showSheet({ asked, puzzles });
   }
@@ -386,16 +392,15 @@ export class Session {
       this.shown.puzzleTold = text;
       this.listener.drawPuzzle(this.shown);
     };
+    this.#isDrawing = true;
     tell("A puzzle is drawn…");
-    try {
-      const given = await draw(tell);
-      tell("");
-      return mine === this.#draws ? given : null;
-    } catch (fault) {
-      tell(`${fault.message}.`);
-      this.listener.say(this.shown.puzzleTold);
-      return null;
-    }
+    const given = await draw(tell).catch(fault => ({ fault }));
+    if (mine !== this.#draws) return null;
+    this.#isDrawing = false;
+    tell(given.fault ? `${given.fault.message}.` : "");
+    if (!given.fault) return given;
+    this.listener.say(this.shown.puzzleTold);
+    return null;
   }
 
   /** Solves the same puzzle from its start. That does not count. */
@@ -436,7 +441,9 @@ export class Session {
 
   /** Plays a part of the line of a puzzle from where that begins. */
   followSolution(plies) {
-    this.record.go(this.record.states.indexOf(this.shown.puzzle.from));
+    const { from } = this.shown.puzzle, index = this.record.states.indexOf(from);
+    if (index < 0) this.record.setUp(from.board, from.mover); // other moves took its place
+    else this.record.go(index);
     return this.follow(plies);
   }
 

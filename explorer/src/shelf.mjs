@@ -126,6 +126,12 @@ export class Shelf {
     if (slot.level) this.came();
   }
 
+  /** Whether a level is here. One of a server gives way to one that was built. */
+  has(number) {
+    const slot = this.slots[number];
+    return Boolean(slot) && !slot.again && !slot.level?.file.isHosted;
+  }
+
   level(number) { return this.slots[number]?.level ?? null; }
   fault(number) { return this.slots[number]?.fault ?? null; }
   standing(number) { return this.slots[number]?.standing ?? null; }

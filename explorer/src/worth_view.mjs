@@ -12,7 +12,7 @@ import { grouped, kindOf, plies, SIDES, signed } from "./words.mjs";
 import { hasFault } from "./worths.mjs";
 
 function makeVerdict(shown) {
-  const { state, weighed, hasHints } = shown, hasEnded = isEnded(state.board);
+  const { state, weighed } = shown, hasEnded = isEnded(state.board);
   const [title, text] = verdictOf(shown);
   const value = hasEnded ? endGain(state.board) : weighed?.entry?.value;
   const kind = value === undefined ? "open" : kindOf(value);
@@ -22,7 +22,13 @@ function makeVerdict(shown) {
       element("small", {}, `for ${SIDES[state.mover]}`)),
     element("div", {},
       element("b", {}, title),
-      element("p", {}, hasHints || hasEnded ? text && `${text}.` : "Hints are off.")));
+      element("p", {}, wordsBeside(shown, text && `${text}.`))));
+}
+
+function wordsBeside({ state, weighed, hasHints, puzzle }, text) {
+  if (isEnded(state.board) || weighed) return text;
+  if (hasHints) return "The levels are being asked.";
+  return puzzle?.isOpen ? "Hints are hidden until the puzzle is over." : "Hints are off.";
 }
 
 // ---- the table of moves ----

@@ -70,6 +70,9 @@ await section("a server that knows Range", async () => {
   for (const stones of [7, 8, 9]) values.set(stones, await entryOf(page.shelf, stones));
   expect("six bytes each", [asked.length, asked.every(it => /^\S+ (\d+)-(\d+)$/.exec(it).slice(1).map(Number).reduce((one, other) => other - one) === 5)], [3, true]);
   expect("values", [...values.values()].every(Number.isInteger), true);
+  const built = await opened();
+  await built.library.build(8);
+  expect("what is built here takes the place of the server's", [standings(built), await entryOf(built.shelf, 8)], ["bbbbbbbbbu", values.get(8)]);
 });
 
 await section("parts that are not those asked for", async () => {
