@@ -119,6 +119,12 @@ class Levels {
     return [10000, 100, 1].map(part => Math.floor(number / part) % 100).join(".");
   }
 
+  /** The digest of the sources that the module was made of, in hexadecimal. */
+  get sourceId() {
+    this.#calls.awari_source_text(this.#out);
+    return this.#lentText();
+  }
+
   /** How many levels there are. Boards with fewer stones can be looked up. */
   get length() {
     return this.#calls.awari_levels(this.#handle);
@@ -320,6 +326,11 @@ class Levels {
   /** The sentence for a person that belongs to a number that was answered. Every number has one. */
   sentence(number) {
     this.#calls.awari_text_of(number & 255, this.#out);
+    return this.#lentText();
+  }
+
+  /** The text that was lent, without the zero byte behind it. */
+  #lentText() {
     const told = this.#view(16), [place, length] = [0, 8].map(at => Number(told.getBigUint64(at, true)));
     return new TextDecoder().decode(this.#bytes(place, length - 1));
   }
