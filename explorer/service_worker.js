@@ -1,7 +1,7 @@
 "use strict";
 // Made by explorer/make of explorer/src/service_worker.js: change those.
 
-const VERSION = "23fbb734d2c1a94e";
+const VERSION = "7ebc6ef52afb46de";
 // Keeps the page that came from a server, so that it opens with no network. Levels are not its matter: the page keeps
 // what it built, and asks the server for others. A changed file makes another VERSION, and so another cache.
 
