@@ -5,6 +5,8 @@ import { countOf, digestOf, entryOf, filesOf, limitOf, placeOf } from "./table.m
 
 /** How often it is told how far a build is, in milliseconds, and how many boards a slice has. */
 const TELLS = 250, SLICE = 100_000;
+/** To verify the levels up to this one takes longer than a second. */
+const LONG_LEVEL = 16;
 
 // ---- levels
 
@@ -42,6 +44,7 @@ function pitsOf(levels, board) {
 /** The board's pits, with its levels put on and no more. If its level is not there, it is refused by this number. */
 function opened(run, folder, board, number = 59) {
   const pits = pitsOf(run.levels, board), stones = pits.reduce((sum, its) => sum + its);
+  if (stones >= LONG_LEVEL && stones <= HIGHEST_LEVEL) run.tell(`${folder.name}: verifying levels 0 to ${stones}`);
   load(run.levels, folder, stones);
   if (stones >= run.levels.length) throw new Refusal(number, { levels: run.levels.length });
   return pits;

@@ -51,6 +51,10 @@ export class Folder {
     this.#remark = remark;
   }
 
+  get name() {
+    return this.#name;
+  }
+
   #place(level, end = "") {
     return join(this.#name, `level_${two(level)}.awdb${end}`);
   }

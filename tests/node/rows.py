@@ -18,6 +18,7 @@ from common import expect_that, finish, room_in_memory
 COMMANDS = "check move judge build verify text ask moves line rank board counts".split()
 # what the program has besides, and a help that this one has not
 LACKS = {"--unverified", "--by", "--estimate"}
+HINT = b"; --unverified answers at once"
 
 
 def rows_of_program():
@@ -41,6 +42,8 @@ def main(wrapper, *names):
     files = [HERE.parent / "rows" / f"{name}.rows" for name in names] or sorted((HERE.parent / "rows").glob("*.rows"))
     found = [row for file in files for row in rows.rows_in(file)]
     had = [row for row in found if is_had(row)]
+    for row in had:
+        row.lines |= {sign: [line.replace(HINT, b"") for line in lines] for sign, lines in row.lines.items() if sign == "!"}
     print(f"{len(found) - len(had)} rows are of other commands and options")
     with room_in_memory() as room:
         for row in had:
