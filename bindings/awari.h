@@ -267,7 +267,7 @@ static inline size_t awari_file_len(uint8_t level) { return 84 + 6 * (size_t)awa
  * file for the time of the call. */
 uint8_t awari_finish(awari_handle *handle, uint8_t *file, size_t len);
 
-/* All of this in one call, for which the levels don't answer meanwhile: 0, 51, 53 or 70. */
+/* The next level in one call, during which the others don't answer: 0, 51, 53 or 70. */
 static inline uint8_t awari_build_next(awari_handle *handle, uint8_t *file, size_t len) {
     awari_draft draft = {0, 0, false};
     uint8_t answer = awari_begin(handle);
