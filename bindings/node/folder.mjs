@@ -51,6 +51,7 @@ export class Folder {
     this.#remark = remark;
   }
 
+  /** The name that it was given. */
   get name() {
     return this.#name;
   }
